@@ -1,0 +1,99 @@
+-- Which values fit (`any-fits`, `in-bits`, `extension`), the form of a typed item (`form-of`), and an arm of a match that stands for
+-- several variants (`each-of`). Assumes nothing.
+use mathlib.Core.Path.{_≡_, refl, subst⁻¹}
+use mathlib.Core.Bool.{Bool, true, false, _&&_, and-true, and-false, false≢true}
+use mathlib.Core.List.{List, [], _∷_}
+use mathlib.Core.Logic.{inl, inr}
+use Prim.Native.Nat.{ℕ, zero, suc, _/_, _^_, _<_}
+use native.Mathlib.Nat.{mod-lt}
+use native.Mathlib.Omega.{arith}
+use lib.Dec.{leb, ltb, eqb}
+use lib.Pow.{pow-pos}
+use borrow.Author.Tests.{lt-ltb, le-ltb, ne-eqb, leb-true}
+use borrow.Enum.Known.{ValuesAt, at, lives-at}
+use denote.Enum.Declared.{Record, declared, tagOf}
+use types.Run.{OneOf}
+use Rattle.octets.specs.Choice.{pick, when}
+use Rattle.octets.specs.Refusals.{pastLast}
+use Rattle.items.specs.Groups.{Part, spare, value, bits, values, fits}
+use Rattle.items.specs.Formats.{done, Trace, fitsIn}
+use Rattle.items.specs.Layouts.{chain}
+use Rattle.items.specs.Tables.{period}
+use Rattle.items.specs.Typed.{itemOf, formOf}
+use Rattle.items.specs.declared.typed.Form.{Form}
+use Rattle.items.specs.declared.typed.Form.the-variants as form
+
+module _ (N : Record) (P : N .D → Type 0) where
+  -- P of d, from P of each of these variants whatever it holds
+  abbrev pub Each : List ℕ → N .D → Type 0
+  Each [] d = P d
+  Each (k ∷ ks) d = ((v : ValuesAt (N .parts) k) → P (at N k v)) → Each ks d
+
+  is-one : (k : ℕ) (d : N .D) → tagOf (declared N) d ≡ k → ((v : ValuesAt (N .parts) k) → P (at N k v)) → P d
+  is-one k d e p = subst⁻¹ P (lives-at N d k e .1) (p (lives-at N d k e .0))
+
+  found : (ks : List ℕ) (d : N .D) → P d → Each ks d
+  found [] d q = q
+  found (k ∷ ks) d q = λ p. found ks d q
+
+  -- In an arm for several variants, what holds of each of them holds of the value.
+  pub each-of : (ks : List ℕ) (d : N .D) → OneOf ks (tagOf (declared N) d) → Each ks d
+  each-of [] d h = absurd h
+  each-of (k ∷ []) d e = is-one k d e
+  each-of (k ∷ j ∷ ks) d (inl e) = λ p. found (j ∷ ks) d (is-one k d e p)
+  each-of (k ∷ j ∷ ks) d (inr h) = λ p. each-of (j ∷ ks) d h
+
+never : {A : Type 0} → false ≡ true → A
+never h = absurd (false≢true h)
+
+-- each value's test admits every number
+abbrev pub AllAny : List Part → Type 0
+AllAny [] = Unit {0}
+AllAny (spare k ∷ ps) = AllAny ps
+AllAny (value k ok ∷ ps) = ((v : ℕ) → ok v ≡ true) × AllAny ps
+
+-- Where every test admits all, the values in a number fit.
+pub any-fits : (ps : List Part) (x : ℕ) → AllAny ps → fits ps (values ps x) ≡ true
+unfolding fits values
+any-fits [] x a = refl
+any-fits (spare k ∷ ps) x a = any-fits ps x a
+any-fits (value k ok ∷ ps) x a =
+    rw (lt-ltb _ _ (mod-lt (x / 2 ^ bits ps) (pow-pos k)), a .0 _, any-fits ps x (a .1))
+
+-- A value in a range below m needs no test that it is below m.
+pub in-bits : (m a k : ℕ) → k < m → (v : ℕ) → (ltb v m && (leb a v && leb v k)) ≡ (leb a v && leb v k)
+in-bits m a k h v = go (leb v k) refl
+  where
+    go : (b : Bool) → leb v k ≡ b → (ltb v m && (leb a v && leb v k)) ≡ (leb a v && leb v k)
+    go true e = rw (lt-ltb v m (omega (arith, leb-true v k e)))
+    go false e = simp (e, and-false)
+
+-- FX e, and the period p that follows where it is 1, as `period_fits` tests them
+pub extension : (e p : ℕ) → (ltb e 2 && fitsIn (pick (eqb e 1) (chain pastLast period []) done) (when (eqb e 1) ((p ∷ 0 ∷ []) ∷ [])))
+    ≡ pick (eqb e 1) (leb 1 p && leb p 127) (eqb e 0)
+unfolding fits fitsIn chain
+extension zero p = refl
+extension (suc zero) p = simp (and-true, in-bits 128 1 127 (omega arith))
+extension (suc (suc e)) p =
+    let n = suc (suc e) in
+    simp (le-ltb n 2 (omega arith), ne-eqb n 1 (λ h. omega arith), ne-eqb n 0 (λ h. omega arith))
+
+-- The typed item says its form.
+pub form-of : (f : Form) (tr : Trace) (behind : ℕ) → formOf (itemOf f tr behind) ≡ f
+form-of form.Spare tr at = refl
+form-of form.Source tr at = refl
+form-of form.MessageType tr at = refl
+form-of form.Service tr at = refl
+form-of form.Identification tr at = refl
+form-of form.Time tr at = refl
+form-of form.Batch tr at = refl
+form-of form.Sdps tr at = refl
+form-of form.Report tr at = refl
+form-of form.Station tr at = refl
+form-of form.Configuration tr at = refl
+form-of form.Range tr at = refl
+form-of form.Status tr at = refl
+form-of form.Statistics tr at = refl
+form-of form.Versions tr at = refl
+form-of form.Expansion tr at = refl
+form-of form.Purpose tr at = refl

@@ -1,0 +1,15 @@
+use native.Mathlib.Nat.{div-one}
+use Rattle.items.specs.Groups.{values}
+use borrow.Author.Needs.{needs}
+use Rattle.items.proofs.values.counter_of.Statement.{statement}
+use Rattle.items.proofs.values.counter_of.Tie as tie
+
+pub counter-of-spec : {M : Type 1} → statement M
+unfolding values
+counter-of-spec =
+    tie.close
+    (tie.spec
+    (λ c. search needs)
+    (λ c. search needs)
+    (λ c. search needs)
+    (λ c. simp div-one))

@@ -1,0 +1,332 @@
+// One item in octets: read, judged and written, by what stands at its field.
+ghost use mathlib.Core.Path.{_≡_};
+ghost use mathlib.Core.List.{[], _++_};
+ghost use Prim.Native.Nat.{_+_, _*_, _%_, _≤_, _<_};
+ghost use lib.Dec.{ltb, leb, eqb};
+ghost use lib.ListN.{length};
+ghost use Rattle.octets.specs.Choice.{pick, when, odd};
+ghost use Rattle.octets.specs.Numbers.{number, octets, laid};
+ghost use Rattle.octets.specs.Refusals.{passesEnd, noCount, outOfRange};
+ghost use Rattle.items.specs.Groups.{values};
+ghost use Rattle.items.specs.Formats.{fitsIn, put};
+ghost use Rattle.items.specs.Offsets.{itemAt, traceAt, extensionAt};
+ghost use Rattle.items.specs.Layouts.{times, format, kindOf, firstOctets, entryOctets, entryGroup};
+ghost use Rattle.items.specs.Ends.{endOf};
+ghost use Rattle.items.specs.Tables.{counter, version, layout};
+ghost use Rattle.items.specs.Typed.{itemOf, fieldOf, groupsAt, countedOctets, itemFormat, given, exactFits, itemRefusal, itemOctets, sizeOf, counterOf, versionOf};
+use crate::category::Cat23;
+use crate::category::Cat242;
+use crate::category::Field;
+use crate::ends::End;
+use crate::ends::Kind;
+use crate::typed::Counter;
+use crate::typed::Form;
+use crate::typed::Item;
+use crate::typed::Place;
+use crate::typed::Version;
+use octets::refusal;
+
+// How many octets a written item has, or the number that refuses it.
+pub enum Size {
+    Octets(usize),
+    Refused(u8),
+}
+
+// How many octets an item's first group has.
+fn first_octets(kind: Kind) -> usize
+    ensures { λ r. ⌜ r ≡ firstOctets kind ⌝ }
+{
+    match kind {
+        Kind::Fixed(size) => size as usize,
+        Kind::Extended(size, _) => size as usize,
+        Kind::Spare => 1,
+        Kind::Repeated(_) => 1,
+        Kind::Explicit => 1,
+    }
+}
+
+// How many octets an entry has; content has entries of one.
+fn entry_octets(kind: Kind) -> usize
+    ensures { λ r. ⌜ r ≡ entryOctets kind ⌝ }
+{
+    match kind {
+        Kind::Repeated(size) => size as usize,
+        Kind::Spare => 1,
+        Kind::Fixed(_) => 1,
+        Kind::Extended(_, _) => 1,
+        Kind::Explicit => 1,
+    }
+}
+
+// An entry of 23/120. Only for the next layer: the offset lies in the slice.
+pub fn counter_at(s: &[u8], at: usize) -> Counter
+    requires { ⌜ at ≤ length (now s) ⌝ }
+    ensures { λ r. ⌜ r ≡ counterOf (values (counter .parts) (number (counter .wide) (now (s .entry)) at)) ⌝ }
+{
+    let field = Cat23::I120;
+    let kind = field.1;
+    let size = entry_octets(kind);
+    crate::values::counter_of(octets::read(s, at, size))
+}
+
+// An entry of 242/550. Only for the next layer: the offset lies in the slice.
+pub fn version_at(s: &[u8], at: usize) -> Version
+    requires { ⌜ at ≤ length (now s) ⌝ }
+    ensures { λ r. ⌜ r ≡ versionOf (values (version .parts) (number (version .wide) (now (s .entry)) at)) ⌝ }
+{
+    let field = Cat242::I550;
+    let kind = field.1;
+    let size = entry_octets(kind);
+    crate::values::version_of(octets::read(s, at, size))
+}
+
+// The number of an item's extension, where FX of its first number is set; 0 where there is none.
+fn extension_at(s: &[u8], at: usize, kind: Kind, first: u64) -> u64
+    requires { ⌜ at ≤ length (now s) ⌝ }
+    ensures { λ r. ⌜ r ≡ extensionAt (now (s .entry)) at kind first ⌝ }
+{
+    match kind {
+        Kind::Extended(size, _) => {
+            if first % 2 == 1 {
+                octets::octet(s, at, size as usize)
+            } else {
+                0
+            }
+        }
+        Kind::Spare => 0,
+        Kind::Fixed(_) => 0,
+        Kind::Repeated(_) => 0,
+        Kind::Explicit => 0,
+    }
+}
+
+// The typed item at an offset. Only for the next layer: the offset lies in the slice, and the field is one of a category.
+pub fn item_at(s: &[u8], at: usize, field: Field) -> Item
+    requires { ⌜ (at < length (now s)) × (field .1 ≡ kindOf (layout (field .0))) ⌝ }
+    ensures { λ r. ⌜ r ≡ itemOf (field .0) (traceAt (format (layout (field .0))) (now (s .entry)) at) (at + 1) ⌝ }
+{
+    let form = field.0;
+    let kind = field.1;
+    let size = first_octets(kind);
+    let first = octets::read(s, at, size);
+    let second = extension_at(s, at, kind, first);
+    crate::values::item_of(form, first, second, at + 1)
+}
+
+// 7, 8 and 11 for entries or content at a place of a source of len octets; their count octet has extra more.
+fn place_refusal(len: usize, place: Place, size: usize, extra: usize) -> u8
+    requires { ⌜ (0 < size) × (extra ≤ 255) ⌝ }
+    ensures { λ r. ⌜ r ≡ pick (ltb len (place .at + place .count * size)) passesEnd (pick (eqb (place .count) 0) noCount (pick (leb (place .count + extra) 255) 0 outOfRange)) ⌝ }
+{
+    if len < place.at {
+        return refusal::PASSES_END;
+    }
+    if (len - place.at) / size < place.count {
+        return refusal::PASSES_END;
+    }
+    if place.count == 0 {
+        return refusal::NO_COUNT;
+    }
+    if 255 - extra < place.count {
+        return refusal::OUT_OF_RANGE;
+    }
+    refusal::ACCEPTED
+}
+
+// The versions of entries are in range.
+fn versions_fit(s: &[u8], at: usize, count: usize) -> bool
+    requires { ⌜ at + count * version .wide ≤ length (now s) ⌝ }
+    ensures { λ r. ⌜ r ≡ fitsIn (times count version) (groupsAt count version (now (s .entry)) at) ⌝ }
+{
+    let field = Cat242::I550;
+    let kind = field.1;
+    let size = entry_octets(kind);
+    let mut p = at;
+    let mut left = count;
+    while 0 < left {
+        let entry = version_at(s, p);
+        if 99 < entry.main {
+            return false;
+        }
+        if 99 < entry.sub {
+            return false;
+        }
+        p += size;
+        left -= 1;
+    }
+    true
+}
+
+// Writes entries or content from a place of the source, spare bits cleared. The octets lie in both slices.
+fn put_entries(
+    out: &mut [u8],
+    at: usize,
+    source: &[u8],
+    from: usize,
+    count: usize,
+    form: Form,
+    size: usize,
+)
+    requires { ⌜ (size ≡ entryGroup (layout form) .wide) × (from + count * size ≤ length (now source)) × (at + count * size ≤ length (now out)) ⌝ }
+    ensures { λ _. ⌜ now (out .exit) ≡ laid (now (out .entry)) at (put (times count (entryGroup (layout form))) (groupsAt count (entryGroup (layout form)) (now (source .entry)) from) []) ⌝ }
+{
+    let mut p = at;
+    let mut q = from;
+    let mut left = count;
+    while 0 < left {
+        let x = octets::read(source, q, size);
+        octets::write(out, p, size, crate::values::entry_number(form, x));
+        p += size;
+        q += size;
+        left -= 1;
+    }
+}
+
+// 11 for a value that does not fit.
+fn exact_refusal(item: Item) -> u8
+    ensures { λ r. ⌜ r ≡ pick (exactFits (itemFormat item) (given item)) 0 outOfRange ⌝ }
+{
+    if crate::values::exact_fits(item) {
+        refusal::ACCEPTED
+    } else {
+        refusal::OUT_OF_RANGE
+    }
+}
+
+// As place_refusal, and 11 for a version out of range.
+fn versions_refusal(place: Place, size: usize, source: &[u8]) -> u8
+    requires { ⌜ size ≡ version .wide ⌝ }
+    ensures { λ r. ⌜ r ≡ itemRefusal (now (source .entry)) (Item.Versions place) ⌝ }
+{
+    let n = place_refusal(source.len(), place, size, 0);
+    if n != refusal::ACCEPTED {
+        return n;
+    }
+    if versions_fit(source, place.at, place.count) {
+        refusal::ACCEPTED
+    } else {
+        refusal::OUT_OF_RANGE
+    }
+}
+
+// The number that refuses an item for writing, entries and content in the source: 7, 8, 11. Only for the next layer: the field is
+// the item's.
+pub fn item_refusal(item: Item, field: Field, source: &[u8]) -> u8
+    requires { ⌜ field ≡ fieldOf item ⌝ }
+    ensures { λ r. ⌜ r ≡ itemRefusal (now (source .entry)) item ⌝ }
+{
+    let kind = field.1;
+    let size = entry_octets(kind);
+    match item {
+        Item::Statistics(p) => place_refusal(source.len(), p, size, 0),
+        Item::Versions(p) => versions_refusal(p, size, source),
+        Item::Expansion(p) => place_refusal(source.len(), p, size, 1),
+        Item::Purpose(p) => place_refusal(source.len(), p, size, 1),
+        _ => exact_refusal(item),
+    }
+}
+
+// How many octets an item that is not refused has.
+fn octets_of(item: Item, field: Field, source: &[u8]) -> usize
+    requires { ⌜ (field ≡ fieldOf item) × (itemRefusal (now source) item ≡ 0) ⌝ }
+    ensures { λ r. ⌜ r ≡ length (itemOctets (now (source .entry)) item) ⌝ }
+{
+    let kind = field.1;
+    let place = crate::values::place_of(item);
+    match kind {
+        Kind::Spare => 0,
+        Kind::Fixed(size) => size as usize,
+        Kind::Extended(size, _) => size as usize + (crate::values::first_of(item) % 2) as usize,
+        Kind::Repeated(size) => 1 + place.count * size as usize,
+        Kind::Explicit => 1 + place.count,
+    }
+}
+
+// How many octets an item has when written, or the number that refuses it. Only for the next layer: the field is the item's.
+pub fn judge(item: Item, field: Field, source: &[u8]) -> Size
+    requires { ⌜ field ≡ fieldOf item ⌝ }
+    ensures { λ r. ⌜ r ≡ sizeOf (now (source .entry)) item ⌝ }
+{
+    let n = item_refusal(item, field, source);
+    if n != refusal::ACCEPTED {
+        return Size::Refused(n);
+    }
+    Size::Octets(octets_of(item, field, source))
+}
+
+// Writes a part, and its extension where FX is set; gives the offset behind them.
+fn put_extended(out: &mut [u8], at: usize, size: usize, first: u64, second: u64) -> usize
+    requires { ⌜ at + (size + first % 2) ≤ length (now out) ⌝ }
+    ensures { λ r. ⌜ (now (out .exit) ≡ laid (now (out .entry)) at (octets size first ++ when (odd first) (octets 1 second))) × (r ≡ at + (size + first % 2)) ⌝ }
+{
+    octets::write(out, at, size, first);
+    if first % 2 == 1 {
+        octets::write(out, at + size, 1, second);
+        return at + size + 1;
+    }
+    at + size
+}
+
+// Writes a count octet, and the entries or content behind it; gives the offset behind them.
+fn put_counted(
+    out: &mut [u8],
+    at: usize,
+    source: &[u8],
+    place: Place,
+    form: Form,
+    size: usize,
+    extra: usize,
+) -> usize
+    requires { ⌜ (size ≡ entryGroup (layout form) .wide) × (place .at + place .count * size ≤ length (now source)) × (at + (1 + place .count * size) ≤ length (now out)) × (place .count + extra ≤ 255) ⌝ }
+    ensures { λ r. ⌜ (now (out .exit) ≡ laid (now (out .entry)) at (countedOctets (now (source .entry)) extra (entryGroup (layout form)) place)) × (r ≡ at + (1 + place .count * size)) ⌝ }
+{
+    let from = place.at;
+    let count = place.count;
+    octets::write(out, at, 1, (count + extra) as u64);
+    put_entries(out, at + 1, source, from, count, form, size);
+    at + 1 + count * size
+}
+
+// Writes an item that is not refused, and gives the offset behind it. Only for the next layer: the field is the item's, and its
+// octets lie in the output.
+pub fn put_item(out: &mut [u8], at: usize, item: Item, field: Field, source: &[u8]) -> usize
+    requires { ⌜ (field ≡ fieldOf item) × (itemRefusal (now source) item ≡ 0) × (at + length (itemOctets (now source) item) ≤ length (now out)) ⌝ }
+    ensures { λ r. ⌜ (now (out .exit) ≡ laid (now (out .entry)) at (itemOctets (now (source .entry)) item)) × (r ≡ at + length (itemOctets (now (source .entry)) item)) ⌝ }
+{
+    let form = field.0;
+    let kind = field.1;
+    let first = crate::values::first_of(item);
+    let second = crate::values::second_of(item);
+    let place = crate::values::place_of(item);
+    match kind {
+        Kind::Spare => at,
+        Kind::Fixed(size) => {
+            octets::write(out, at, size as usize, first);
+            at + size as usize
+        }
+        Kind::Extended(size, _) => put_extended(out, at, size as usize, first, second),
+        Kind::Repeated(size) => put_counted(out, at, source, place, form, size as usize, 0),
+        Kind::Explicit => put_counted(out, at, source, place, form, 1, 1),
+    }
+}
+
+// Where the item at an offset ends, or the number that refuses it: 7, 8 and 9 as met, then 11. Only for the next layer: the offset
+// lies before the block's end, that in the slice, and the field is one of a category.
+pub fn pass(s: &[u8], len: usize, at: usize, field: Field) -> End
+    requires { ⌜ (at ≤ len) × (len ≤ length (now s)) × (field .1 ≡ kindOf (layout (field .0))) ⌝ }
+    ensures { λ r. ⌜ r ≡ endOf (itemAt (now (s .entry)) len (format (layout (field .0))) at) ⌝ }
+{
+    let kind = field.1;
+    let end = crate::ends::kind_end(s, len, at, kind);
+    match end {
+        End::Refused(n) => End::Refused(n),
+        End::At(q) => {
+            let n = item_refusal(item_at(s, at, field), field, s);
+            if n == refusal::ACCEPTED {
+                End::At(q)
+            } else {
+                End::Refused(refusal::OUT_OF_RANGE)
+            }
+        }
+    }
+}

@@ -1,0 +1,128 @@
+// The typed forms of items. Units are types: none can stand where another is asked for.
+
+// Of 0.5 s.
+pub struct HalfSeconds(pub u8);
+
+pub struct Seconds(pub u8);
+
+// Of 1/128 s since midnight.
+pub struct TimeOfDay(pub u32);
+
+// 010.
+pub struct Source {
+    pub sac: u8,
+    pub sic: u8,
+}
+
+// 23/015.
+pub struct Service {
+    pub sid: u8,
+    pub styp: u8,
+}
+
+// 65/040.
+pub struct Sdps {
+    pub nogo: u8,
+    pub ovl: u8,
+    pub tsv: u8,
+    pub pss: u8,
+}
+
+// 23/100. Extended is 1 where the extension is there, else 0.
+pub struct Station {
+    pub nogo: u8,
+    pub odp: u8,
+    pub oxt: u8,
+    pub msc: u8,
+    pub tsv: u8,
+    pub spo: u8,
+    pub rn: u8,
+    pub extended: u8,
+    pub gssp: Seconds,
+}
+
+// 23/101. Extended is 1 where the extension is there, else 0.
+pub struct Configuration {
+    pub rp: HalfSeconds,
+    pub sc: u8,
+    pub extended: u8,
+    pub ssrp: Seconds,
+}
+
+// Entries or content: the offset of the first, and how many there are.
+pub struct Place {
+    pub at: usize,
+    pub count: usize,
+}
+
+// An entry of 23/120.
+pub struct Counter {
+    pub typ: u8,
+    pub reference: u8,
+    pub count: u32,
+}
+
+// An entry of 242/550.
+pub struct Version {
+    pub category: u8,
+    pub main: u8,
+    pub sub: u8,
+}
+
+// What an item holds.
+pub enum Form {
+    Spare,
+    // 010.
+    Source,
+    // 23/000, 65/000.
+    MessageType,
+    // 23/015.
+    Service,
+    // 65/015.
+    Identification,
+    // 23/070, 65/030, 242/140.
+    Time,
+    // 65/020.
+    Batch,
+    // 65/040.
+    Sdps,
+    // 65/050.
+    Report,
+    // 23/100.
+    Station,
+    // 23/101.
+    Configuration,
+    // 23/200, in NM.
+    Range,
+    // 23/110, STAT.
+    Status,
+    // 23/120.
+    Statistics,
+    // 242/550.
+    Versions,
+    // RE.
+    Expansion,
+    // SP.
+    Purpose,
+}
+
+// An item in its typed form.
+pub enum Item {
+    Absent,
+    Source(Source),
+    MessageType(u8),
+    Service(Service),
+    Identification(u8),
+    Time(TimeOfDay),
+    Batch(u8),
+    Sdps(Sdps),
+    Report(u8),
+    Station(Station),
+    Configuration(Configuration),
+    Range(u8),
+    Status(u8),
+    Statistics(Place),
+    Versions(Place),
+    Expansion(Place),
+    Purpose(Place),
+}

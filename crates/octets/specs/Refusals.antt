@@ -1,0 +1,20 @@
+-- The refusal numbers of document 01, "Refusal numbers", that the definitions give so far. The code's names are in src/refusal.rt.
+use Prim.Native.Nat.{ℕ}
+
+abbrev pub longSpecification : ℕ
+longSpecification = 4
+
+abbrev pub spareMarked : ℕ
+spareMarked = 5
+
+abbrev pub passesEnd : ℕ
+passesEnd = 7
+
+abbrev pub noCount : ℕ
+noCount = 8
+
+abbrev pub pastLast : ℕ
+pastLast = 9
+
+abbrev pub outOfRange : ℕ
+outOfRange = 11
