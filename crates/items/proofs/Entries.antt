@@ -10,11 +10,12 @@ use lib.Pow.{pow-pos}
 use borrow.Author.Tests.{lt-ltb}
 use Rattle.octets.specs.Numbers.{number}
 use Rattle.octets.proofs.Numbers.{length-octets}
-use Rattle.items.specs.Groups.{Part, spare, value, bits, values, fits, Group}
-use Rattle.items.specs.Formats.{fitsIn, put}
-use Rattle.items.specs.Layouts.{octet, times}
-use Rattle.items.specs.Tables.{counter}
-use Rattle.items.specs.Typed.{groupsAt}
+use Rattle.layouts.specs.Groups.{Part, spare, value, bits, values, fits, Group}
+use Rattle.layouts.specs.Formats.{fitsIn, put}
+use Rattle.layouts.specs.Layouts.{octet, times}
+use Rattle.layouts.specs.Tables.{counter}
+use Rattle.layouts.specs.Offsets.{groupsAt}
+use Rattle.items.specs.Typed.{}
 
 -- the values in a number are in range
 abbrev pub ranged : List Part → ℕ → Bool

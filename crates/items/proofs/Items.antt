@@ -11,17 +11,17 @@ use borrow.Author.Tests.{ltb-false, eqb-false, leb-false}
 use Rattle.octets.specs.Choice.{pick, when, odd}
 use Rattle.octets.specs.Numbers.{number}
 use Rattle.octets.specs.Refusals.{noCount, pastLast}
-use Rattle.items.specs.Groups.{values, Group}
-use Rattle.items.specs.Formats.{Format, done, stop, ask, Trace, got}
-use Rattle.items.specs.Offsets.{runAt, traceAt, extensionAt}
-use Rattle.items.specs.Layouts.{fx, octet, times, chain, counted, format, kindOf, firstGroup, firstOctets}
-use Rattle.items.specs.Tables.{station, configuration, status, period, counter, version, layout}
-use Rattle.items.specs.Typed.{val, itemOf, groupsAt, placed, givenTrace, traceOf}
-use Rattle.items.proofs.Answers.{got-refused, pick-no, through}
-use Rattle.items.proofs.Windows.{run-trace}
-use Rattle.items.specs.declared.ends.Kind.{Kind}
-use Rattle.items.specs.declared.typed.Form.{Form}
-use Rattle.items.specs.declared.typed.Form.the-variants as form
+use Rattle.layouts.specs.Groups.{values, Group}
+use Rattle.layouts.specs.Formats.{Format, done, stop, ask, Trace, got}
+use Rattle.layouts.specs.Offsets.{runAt, traceAt, extensionAt, groupsAt}
+use Rattle.layouts.specs.Layouts.{fx, octet, times, chain, counted, format, kindOf, firstGroup, firstOctets}
+use Rattle.layouts.specs.Tables.{station, configuration, status, period, counter, version, layout}
+use Rattle.items.specs.Typed.{val, itemOf, placed, givenTrace, traceOf}
+use Rattle.layouts.proofs.Answers.{got-refused, pick-no, through}
+use Rattle.layouts.proofs.Windows.{run-trace}
+use Rattle.layouts.specs.declared.ends.Kind.{Kind}
+use Rattle.layouts.specs.declared.form.Form.{Form}
+use Rattle.layouts.specs.declared.form.Form.the-variants as form
 use Rattle.items.specs.declared.typed.Item.the-variants as item
 
 number-one : (s : List ℕ) (o : ℕ) → number 1 s o ≡ getD s o 0

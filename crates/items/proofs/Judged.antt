@@ -11,21 +11,21 @@ use borrow.Author.Tests.{ltb-false, leb-true, leb-false, eqb-false, lt-ltb, le-l
 use Rattle.octets.specs.Choice.{pick}
 use Rattle.octets.specs.Numbers.{number}
 use Rattle.octets.specs.Refusals.{passesEnd, noCount, outOfRange}
-use Rattle.items.specs.Groups.{values, fits, Group}
-use Rattle.items.specs.Formats.{Format, stop, ask, Trace, fitsIn, got}
-use Rattle.items.specs.Offsets.{runAt, traceAt}
-use Rattle.items.specs.Layouts.{octet, times, counted, format, entryOctets}
-use Rattle.items.specs.Tables.{counter, version, layout}
-use Rattle.items.specs.Typed.{val, itemOf, groupsAt, placed, givenTrace, givenRefusal, given, placeOf, traceOf, itemRefusal, itemOctets, sizeOf, fieldOf}
+use Rattle.layouts.specs.Groups.{values, fits, Group}
+use Rattle.layouts.specs.Formats.{Format, stop, ask, Trace, fitsIn, got}
+use Rattle.layouts.specs.Offsets.{runAt, traceAt, groupsAt}
+use Rattle.layouts.specs.Layouts.{octet, times, counted, format, entryOctets}
+use Rattle.layouts.specs.Tables.{counter, version, layout}
+use Rattle.items.specs.Typed.{val, itemOf, placed, givenTrace, givenRefusal, given, placeOf, traceOf, itemRefusal, itemOctets, sizeOf, fieldOf}
 use Rattle.items.proofs.Entries.{entries-free}
-use Rattle.items.proofs.Windows.{run-trace}
+use Rattle.layouts.proofs.Windows.{run-trace}
 use Rattle.items.proofs.Items.{run-next, run-enough, run-past, typed-trace}
-use Rattle.items.specs.declared.category.Field.{Field}
-use Rattle.items.specs.declared.ends.Kind.{Kind}
-use Rattle.items.specs.declared.ends.Kind.the-variants.{Spare, Fixed, Extended, Repeated, Explicit}
+use Rattle.layouts.specs.declared.category.Field.{Field}
+use Rattle.layouts.specs.declared.ends.Kind.{Kind}
+use Rattle.layouts.specs.declared.ends.Kind.the-variants.{Spare, Fixed, Extended, Repeated, Explicit}
 use Rattle.items.specs.declared.item.Size.{Size}
-use Rattle.items.specs.declared.typed.Form.{Form}
-use Rattle.items.specs.declared.typed.Form.the-variants as form
+use Rattle.layouts.specs.declared.form.Form.{Form}
+use Rattle.layouts.specs.declared.form.Form.the-variants as form
 use Rattle.items.specs.declared.typed.Item.{Item}
 use Rattle.items.specs.declared.typed.Item.the-variants as item
 use Rattle.items.specs.declared.typed.Place.{Place}

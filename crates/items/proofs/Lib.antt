@@ -1,14 +1,7 @@
-pub mod Answers
-pub mod Groups
-pub mod Formats
-pub mod Windows
-pub mod Alike
-pub mod KindEnds
+pub mod Entries
 pub mod ValueLaws
-pub mod Categories
 pub mod Items
 pub mod ReadBack
 pub mod Judged
 pub mod Written
-pub mod Entries
 pub mod Passed

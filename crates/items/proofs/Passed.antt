@@ -9,20 +9,20 @@ use lib.ListN.{length}
 use Rattle.octets.specs.Choice.{pick}
 use Rattle.octets.specs.Numbers.{Octets}
 use Rattle.octets.specs.Refusals.{outOfRange}
-use Rattle.items.specs.Formats.{Answer, refused, got, Format, Trace, fitsIn}
-use Rattle.items.specs.Offsets.{runAt, itemAt, traceAt}
-use Rattle.items.specs.Layouts.{format, kindOf}
-use Rattle.items.specs.Ends.{endOf, kindEnd}
-use Rattle.items.specs.Tables.{layout}
+use Rattle.layouts.specs.Formats.{Answer, refused, got, Format, Trace, fitsIn}
+use Rattle.layouts.specs.Offsets.{runAt, itemAt, traceAt}
+use Rattle.layouts.specs.Layouts.{format, kindOf}
+use Rattle.layouts.specs.Ends.{endOf, kindEnd}
+use Rattle.layouts.specs.Tables.{layout}
 use Rattle.items.specs.Typed.{itemOf, formOf, itemRefusal, fieldOf}
 use Rattle.items.proofs.Judged.{read-refusal}
-use Rattle.items.proofs.KindEnds.{forms-sound, kind-end, end-room}
+use Rattle.layouts.proofs.KindEnds.{forms-sound, kind-end, end-room}
 use Rattle.items.proofs.ValueLaws.{form-of}
-use Rattle.items.proofs.Windows.{run-trace}
-use Rattle.items.specs.declared.category.Field.{Field}
-use Rattle.items.specs.declared.ends.End.{End}
-use Rattle.items.specs.declared.ends.Kind.{Kind}
-use Rattle.items.specs.declared.typed.Form.{Form}
+use Rattle.layouts.proofs.Windows.{run-trace}
+use Rattle.layouts.specs.declared.category.Field.{Field}
+use Rattle.layouts.specs.declared.ends.End.{End}
+use Rattle.layouts.specs.declared.ends.Kind.{Kind}
+use Rattle.layouts.specs.declared.form.Form.{Form}
 use Rattle.items.specs.declared.typed.Item.{Item}
 
 end-refused : {A : Type 0} (m : Answer ℕ A) (n : ℕ) → endOf m ≡ End.Refused n → m ≡ refused n

@@ -9,10 +9,10 @@ use lib.Dec.{ltb, eqb}
 use lib.ListN.{length}
 use Rattle.octets.specs.Choice.{pick, when}
 use Rattle.octets.specs.Numbers.{laid}
-use Rattle.items.specs.Formats.{got, Format, Trace, fitsIn}
-use Rattle.items.specs.Offsets.{itemAt, traceAt}
+use Rattle.layouts.specs.Formats.{got, Format, Trace, fitsIn}
+use Rattle.layouts.specs.Offsets.{itemAt, traceAt}
 use Rattle.items.specs.Typed.{val, itemOf, formOf, settled, Given, exact, placed, given, traceOf, givenTrace, givenRefusal, itemFormat, itemRefusal, itemOctets}
-use Rattle.items.proofs.Windows.{run-trace, run-read-back, item-read-back}
+use Rattle.layouts.proofs.Windows.{run-trace, run-read-back, item-read-back}
 use Rattle.items.specs.declared.typed.Item.{Item}
 use Rattle.items.specs.declared.typed.Item.the-variants as item
 

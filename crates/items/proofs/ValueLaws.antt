@@ -15,13 +15,13 @@ use denote.Enum.Declared.{Record, declared, tagOf}
 use types.Run.{OneOf}
 use Rattle.octets.specs.Choice.{pick, when}
 use Rattle.octets.specs.Refusals.{pastLast}
-use Rattle.items.specs.Groups.{Part, spare, value, bits, values, fits}
-use Rattle.items.specs.Formats.{done, Trace, fitsIn}
-use Rattle.items.specs.Layouts.{chain}
-use Rattle.items.specs.Tables.{period}
+use Rattle.layouts.specs.Groups.{Part, spare, value, bits, values, fits}
+use Rattle.layouts.specs.Formats.{done, Trace, fitsIn}
+use Rattle.layouts.specs.Layouts.{chain}
+use Rattle.layouts.specs.Tables.{period}
 use Rattle.items.specs.Typed.{itemOf, formOf}
-use Rattle.items.specs.declared.typed.Form.{Form}
-use Rattle.items.specs.declared.typed.Form.the-variants as form
+use Rattle.layouts.specs.declared.form.Form.{Form}
+use Rattle.layouts.specs.declared.form.Form.the-variants as form
 
 module _ (N : Record) (P : N .D → Type 0) where
   -- P of d, from P of each of these variants whatever it holds

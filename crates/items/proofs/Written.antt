@@ -11,22 +11,22 @@ use borrow.Author.Tests.{eqb-true, eqb-false, eq-eqb, ne-eqb}
 use Rattle.octets.specs.Choice.{pick, when, odd}
 use Rattle.octets.specs.Numbers.{octets, laid}
 use Rattle.octets.specs.Refusals.{noCount, pastLast}
-use Rattle.items.specs.Groups.{values, merge, fits, Group}
-use Rattle.items.specs.Formats.{Format, done, stop, ask, Trace, fitsIn, put}
-use Rattle.items.specs.Layouts.{Layout, unused, fixed, extended, repeated, explicit, fx, octet, times, chain, counted, format, kindOf, firstGroup, entryGroup, entryOctets}
-use Rattle.items.specs.Tables.{source, messageType, service, time, sdps, report, station, period, configuration, status, counter, version, layout}
+use Rattle.layouts.specs.Groups.{values, merge, fits, Group}
+use Rattle.layouts.specs.Formats.{Format, done, stop, ask, Trace, fitsIn, put}
+use Rattle.layouts.specs.Layouts.{Layout, unused, fixed, extended, repeated, explicit, fx, octet, times, chain, counted, format, kindOf, firstGroup, entryGroup, entryOctets}
+use Rattle.layouts.specs.Tables.{source, messageType, service, time, sdps, report, station, period, configuration, status, counter, version, layout}
 use Rattle.items.specs.Typed.{Given, given, firstNumber, secondNumber, placeOf, formOf, fieldOf, countedOctets, itemRefusal, itemOctets}
 use Rattle.octets.proofs.Laying.{laid-laid}
 use Rattle.octets.proofs.Numbers.{length-octets}
-use Rattle.items.proofs.Answers.{both}
+use Rattle.layouts.proofs.Answers.{both}
 use Rattle.items.proofs.Entries.{entries-long}
-use Rattle.items.proofs.Groups.{values-merge}
-use Rattle.items.proofs.KindEnds.{flagged, flagged-fx}
+use Rattle.layouts.proofs.Groups.{values-merge}
+use Rattle.layouts.proofs.KindEnds.{flagged, flagged-fx}
 use Rattle.items.proofs.ReadBack.{item-fits}
 use Rattle.items.proofs.Judged.{Room, room-of}
-use Rattle.items.specs.declared.category.Field.{Field}
-use Rattle.items.specs.declared.ends.Kind.{Kind}
-use Rattle.items.specs.declared.ends.Kind.the-variants.{Spare, Fixed, Extended, Repeated, Explicit}
+use Rattle.layouts.specs.declared.category.Field.{Field}
+use Rattle.layouts.specs.declared.ends.Kind.{Kind}
+use Rattle.layouts.specs.declared.ends.Kind.the-variants.{Spare, Fixed, Extended, Repeated, Explicit}
 use Rattle.items.specs.declared.typed.Item.{Item}
 use Rattle.items.specs.declared.typed.Item.the-variants as item
 use Rattle.items.specs.declared.typed.Place.{Place}

@@ -7,14 +7,15 @@ use lib.ListN.{length, getD}
 use Rattle.octets.specs.Choice.{pick, when}
 use Rattle.octets.specs.Numbers.{number, octets}
 use Rattle.octets.specs.Refusals.{passesEnd, noCount, outOfRange}
-use Rattle.items.specs.Groups.{values, merge, Group}
-use Rattle.items.specs.Formats.{Format, Trace, fitsIn, put}
-use Rattle.items.specs.Layouts.{octet, times, format, kindOf}
-use Rattle.items.specs.Tables.{period, counter, version, layout}
-use Rattle.items.specs.declared.category.Field.{Field}
+use Rattle.layouts.specs.Groups.{values, merge, Group}
+use Rattle.layouts.specs.Formats.{Format, Trace, fitsIn, put}
+use Rattle.layouts.specs.Offsets.{groupsAt}
+use Rattle.layouts.specs.Layouts.{octet, times, format, kindOf}
+use Rattle.layouts.specs.Tables.{period, counter, version, layout}
+use Rattle.layouts.specs.declared.category.Field.{Field}
 use Rattle.items.specs.declared.item.Size.{Size}
-use Rattle.items.specs.declared.typed.Form.{Form}
-use Rattle.items.specs.declared.typed.Form.the-variants as form
+use Rattle.layouts.specs.declared.form.Form.{Form}
+use Rattle.layouts.specs.declared.form.Form.the-variants as form
 use Rattle.items.specs.declared.typed.Item.{Item}
 use Rattle.items.specs.declared.typed.Item.the-variants as item
 use Rattle.items.specs.declared.typed.Place.{Place}
@@ -113,11 +114,6 @@ settled at (item.Statistics p) = item.Statistics (record { at = at; count = p .c
 settled at (item.Versions p) = item.Versions (record { at = at; count = p .count })
 settled at (item.Expansion p) = item.Expansion (record { at = at; count = p .count })
 settled at (item.Purpose p) = item.Purpose (record { at = at; count = p .count })
-
--- the values of n groups from an offset
-unfoldable pub groupsAt : ℕ → Group → List ℕ → ℕ → Trace
-groupsAt zero g s at = []
-groupsAt (suc n) g s at = values (g .parts) (number (g .wide) s at) ∷ groupsAt n g s (at + g .wide)
 
 -- what a typed item gives: values; or groups at a place of the source, counted by an octet that has e more
 pub data Given : Type 0 where

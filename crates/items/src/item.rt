@@ -7,23 +7,23 @@ ghost use lib.ListN.{length};
 ghost use Rattle.octets.specs.Choice.{pick, when, odd};
 ghost use Rattle.octets.specs.Numbers.{number, octets, laid};
 ghost use Rattle.octets.specs.Refusals.{passesEnd, noCount, outOfRange};
-ghost use Rattle.items.specs.Groups.{values};
-ghost use Rattle.items.specs.Formats.{fitsIn, put};
-ghost use Rattle.items.specs.Offsets.{itemAt, traceAt, extensionAt};
-ghost use Rattle.items.specs.Layouts.{times, format, kindOf, firstOctets, entryOctets, entryGroup};
-ghost use Rattle.items.specs.Ends.{endOf};
-ghost use Rattle.items.specs.Tables.{counter, version, layout};
-ghost use Rattle.items.specs.Typed.{itemOf, fieldOf, groupsAt, countedOctets, itemFormat, given, exactFits, itemRefusal, itemOctets, sizeOf, counterOf, versionOf};
-use crate::category::Cat23;
-use crate::category::Cat242;
-use crate::category::Field;
-use crate::ends::End;
-use crate::ends::Kind;
+ghost use Rattle.layouts.specs.Groups.{values};
+ghost use Rattle.layouts.specs.Formats.{fitsIn, put};
+ghost use Rattle.layouts.specs.Offsets.{itemAt, traceAt, extensionAt, groupsAt};
+ghost use Rattle.layouts.specs.Layouts.{times, format, kindOf, firstOctets, entryOctets, entryGroup};
+ghost use Rattle.layouts.specs.Ends.{endOf};
+ghost use Rattle.layouts.specs.Tables.{counter, version, layout};
+ghost use Rattle.items.specs.Typed.{itemOf, fieldOf, countedOctets, itemFormat, given, exactFits, itemRefusal, itemOctets, sizeOf, counterOf, versionOf};
 use crate::typed::Counter;
-use crate::typed::Form;
 use crate::typed::Item;
 use crate::typed::Place;
 use crate::typed::Version;
+use layouts::category::Cat23;
+use layouts::category::Cat242;
+use layouts::category::Field;
+use layouts::ends::End;
+use layouts::ends::Kind;
+use layouts::form::Form;
 use octets::refusal;
 
 // How many octets a written item has, or the number that refuses it.
@@ -317,7 +317,7 @@ pub fn pass(s: &[u8], len: usize, at: usize, field: Field) -> End
     ensures { λ r. ⌜ r ≡ endOf (itemAt (now (s .entry)) len (format (layout (field .0))) at) ⌝ }
 {
     let kind = field.1;
-    let end = crate::ends::kind_end(s, len, at, kind);
+    let end = layouts::ends::kind_end(s, len, at, kind);
     match end {
         End::Refused(n) => End::Refused(n),
         End::At(q) => {

@@ -5,13 +5,12 @@ ghost use mathlib.Core.List.{[], _∷_};
 ghost use Prim.Native.Nat.{_%_, _-_};
 ghost use lib.Dec.{leb, eqb};
 ghost use Rattle.octets.specs.Choice.{pick};
-ghost use Rattle.items.specs.Groups.{values, merge};
-ghost use Rattle.items.specs.Layouts.{firstGroup, entryGroup};
-ghost use Rattle.items.specs.Tables.{period, counter, version, layout};
+ghost use Rattle.layouts.specs.Groups.{values, merge};
+ghost use Rattle.layouts.specs.Layouts.{firstGroup, entryGroup};
+ghost use Rattle.layouts.specs.Tables.{period, counter, version, layout};
 ghost use Rattle.items.specs.Typed.{itemOf, formOf, itemFormat, given, firstNumber, secondNumber, placeOf, exactFits, counterOf, versionOf};
 use crate::typed::Configuration;
 use crate::typed::Counter;
-use crate::typed::Form;
 use crate::typed::HalfSeconds;
 use crate::typed::Item;
 use crate::typed::Place;
@@ -22,6 +21,7 @@ use crate::typed::Source;
 use crate::typed::Station;
 use crate::typed::TimeOfDay;
 use crate::typed::Version;
+use layouts::form::Form;
 
 // The content that a length octet counts beside itself.
 fn content_of(length: u64, behind: usize) -> Place

@@ -5,8 +5,8 @@ use native.Mathlib.Omega.{arith}
 use borrow.Author.Needs.{needs}
 use Rattle.octets.specs.Choice.{pick}
 use Rattle.octets.specs.Refusals.{outOfRange}
-use Rattle.items.specs.Layouts.{octet, format}
-use Rattle.items.specs.Tables.{counter}
+use Rattle.layouts.specs.Layouts.{octet, format}
+use Rattle.layouts.specs.Tables.{counter}
 use Rattle.items.specs.Typed.{itemFormat, given, exactFits, itemRefusal}
 use Rattle.items.specs.declared.typed.Item.{Item}
 use Rattle.items.proofs.Entries.{counter-free, octet-free}

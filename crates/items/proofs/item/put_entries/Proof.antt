@@ -10,13 +10,14 @@ use borrow.Author.Needs.{needs}
 use Rattle.octets.specs.Numbers.{number, octets, laid}
 use Rattle.octets.proofs.Numbers.{length-octets}
 use Rattle.octets.proofs.Laying.{laid-laid, laid-none}
-use Rattle.items.specs.Groups.{values, merge, Group}
-use Rattle.items.specs.Formats.{put}
-use Rattle.items.specs.Layouts.{times, entryGroup}
-use Rattle.items.specs.Tables.{layout}
-use Rattle.items.specs.Typed.{groupsAt}
-use Rattle.items.specs.declared.typed.Form.{Form}
-use Rattle.items.specs.declared.typed.Form.the-variants as form
+use Rattle.layouts.specs.Groups.{values, merge, Group}
+use Rattle.layouts.specs.Formats.{put}
+use Rattle.layouts.specs.Layouts.{times, entryGroup}
+use Rattle.layouts.specs.Tables.{layout}
+use Rattle.layouts.specs.Offsets.{groupsAt}
+use Rattle.items.specs.Typed.{}
+use Rattle.layouts.specs.declared.form.Form.{Form}
+use Rattle.layouts.specs.declared.form.Form.the-variants as form
 use Rattle.items.proofs.Entries.{entries}
 use Rattle.items.proofs.item.put_entries.Statement.{statement}
 use Rattle.items.proofs.item.put_entries.Tie as tie

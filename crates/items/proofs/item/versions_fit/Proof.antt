@@ -9,11 +9,12 @@ use lib.ListN.{length}
 use borrow.Author.Needs.{needs}
 use borrow.Author.Tests.{le-leb, lt-leb}
 use Rattle.octets.specs.Numbers.{number}
-use Rattle.items.specs.Groups.{values, fits}
-use Rattle.items.specs.Formats.{fitsIn}
-use Rattle.items.specs.Layouts.{times}
-use Rattle.items.specs.Tables.{version}
-use Rattle.items.specs.Typed.{groupsAt, versionOf}
+use Rattle.layouts.specs.Groups.{values, fits}
+use Rattle.layouts.specs.Formats.{fitsIn}
+use Rattle.layouts.specs.Layouts.{times}
+use Rattle.layouts.specs.Tables.{version}
+use Rattle.layouts.specs.Offsets.{groupsAt}
+use Rattle.items.specs.Typed.{versionOf}
 use Rattle.items.specs.declared.typed.Version.{Version}
 use Rattle.items.proofs.Entries.{fits-ranged, entriesFit}
 use Rattle.items.proofs.item.versions_fit.Statement.{statement}

@@ -1,5 +1,5 @@
 use native.Mathlib.Nat.{div-one}
-use Rattle.items.specs.Groups.{values}
+use Rattle.layouts.specs.Groups.{values}
 use borrow.Author.Needs.{needs}
 use Rattle.items.proofs.values.counter_of.Statement.{statement}
 use Rattle.items.proofs.values.counter_of.Tie as tie

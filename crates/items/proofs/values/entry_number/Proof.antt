@@ -2,11 +2,11 @@ use mathlib.Core.Path.{_≡_}
 use mathlib.Core.List.{[], _∷_}
 use Prim.Native.Nat.{_%_}
 use native.Mathlib.Omega.{arith}
-use Rattle.items.specs.Groups.{values, merge}
-use Rattle.items.specs.Layouts.{octet, entryGroup}
-use Rattle.items.specs.Tables.{layout}
-use Rattle.items.specs.declared.typed.Form.{Form}
-use Rattle.items.proofs.typed.Form.{enum}
+use Rattle.layouts.specs.Groups.{values, merge}
+use Rattle.layouts.specs.Layouts.{octet, entryGroup}
+use Rattle.layouts.specs.Tables.{layout}
+use Rattle.layouts.specs.declared.form.Form.{Form}
+use Rattle.layouts.proofs.form.Form.{enum}
 use Rattle.items.proofs.ValueLaws.{each-of}
 use borrow.Author.Needs.{needs}
 use Rattle.items.proofs.values.entry_number.Statement.{statement}

@@ -7,9 +7,9 @@ use borrow.Author.Tests.{lt-ltb}
 use denote.Laws.{Is}
 use denote.Enum.Declared.{row}
 use denote.Enum.Laws.{val}
-use Rattle.items.specs.Groups.{fits}
-use Rattle.items.specs.Formats.{fitsIn}
-use Rattle.items.specs.Layouts.{chain, format}
+use Rattle.layouts.specs.Groups.{fits}
+use Rattle.layouts.specs.Formats.{fitsIn}
+use Rattle.layouts.specs.Layouts.{chain, format}
 use Rattle.items.specs.Typed.{given, itemFormat, exactFits}
 use Rattle.items.specs.declared.typed.Item.{Item}
 use Rattle.items.proofs.typed.Item.{enum, the-type}

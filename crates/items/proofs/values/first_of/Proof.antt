@@ -1,9 +1,9 @@
 use mathlib.Core.Path.{_≡_, refl}
 use mathlib.Core.List.{[], _∷_}
 use native.Mathlib.Omega.{arith}
-use Rattle.items.specs.Groups.{merge}
-use Rattle.items.specs.Layouts.{firstGroup}
-use Rattle.items.specs.Tables.{layout}
+use Rattle.layouts.specs.Groups.{merge}
+use Rattle.layouts.specs.Layouts.{firstGroup}
+use Rattle.layouts.specs.Tables.{layout}
 use Rattle.items.specs.Typed.{formOf, given, firstNumber}
 use Rattle.items.specs.declared.typed.Item.{Item}
 use Rattle.items.proofs.typed.Item.{enum}

@@ -2,7 +2,7 @@ use mathlib.Core.Path.{_≡_, refl}
 use mathlib.Core.List.{[], _∷_}
 use native.Mathlib.Omega.{arith}
 use borrow.Author.Tests.{eq-eqb, ne-eqb}
-use Rattle.items.specs.Groups.{merge}
+use Rattle.layouts.specs.Groups.{merge}
 use Rattle.items.specs.Typed.{given, secondNumber}
 use Rattle.items.specs.declared.typed.Item.{Item}
 use Rattle.items.proofs.typed.Item.{enum}

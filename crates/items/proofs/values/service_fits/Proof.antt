@@ -1,8 +1,8 @@
 use mathlib.Core.Bool.{and-true}
 use borrow.Author.Tests.{lt-ltb, le-ltb}
-use Rattle.items.specs.Groups.{fits}
-use Rattle.items.specs.Formats.{fitsIn}
-use Rattle.items.specs.Layouts.{format}
+use Rattle.layouts.specs.Groups.{fits}
+use Rattle.layouts.specs.Formats.{fitsIn}
+use Rattle.layouts.specs.Layouts.{format}
 use Rattle.items.proofs.values.service_fits.Statement.{statement}
 use Rattle.items.proofs.values.service_fits.Tie as tie
 

@@ -1,9 +1,9 @@
 use mathlib.Core.Bool.{and-true, and-false}
 use native.Mathlib.Omega.{arith}
 use borrow.Author.Tests.{lt-ltb, le-ltb}
-use Rattle.items.specs.Groups.{fits}
-use Rattle.items.specs.Formats.{fitsIn}
-use Rattle.items.specs.Layouts.{chain, format}
+use Rattle.layouts.specs.Groups.{fits}
+use Rattle.layouts.specs.Formats.{fitsIn}
+use Rattle.layouts.specs.Layouts.{chain, format}
 use Rattle.items.proofs.ValueLaws.{extension}
 use borrow.Author.Needs.{needs}
 use Rattle.items.proofs.values.station_fits.Statement.{statement}

@@ -1,0 +1,7 @@
+pub mod Answers
+pub mod Groups
+pub mod Formats
+pub mod Windows
+pub mod Alike
+pub mod KindEnds
+pub mod Categories

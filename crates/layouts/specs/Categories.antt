@@ -1,0 +1,112 @@
+-- The categories (01 "Block and field specification"; 003 §5.3, 000 §5.3, 002 §5.3): field 1 is the first of a list.
+use mathlib.Core.Bool.{Bool, _||_}
+use mathlib.Core.List.{List, [], _∷_}
+use Prim.Native.Nat.{ℕ, _+_, _-_, _^_}
+use lib.Dec.{eqb}
+use lib.ListN.{getD}
+use Rattle.octets.specs.Choice.{pick}
+use Rattle.layouts.specs.Layouts.{Layout, kindOf}
+use Rattle.layouts.specs.Tables.{layout}
+use Rattle.layouts.specs.declared.category.Field.{Field}
+use Rattle.layouts.specs.declared.form.Form.{Form}
+use Rattle.layouts.specs.declared.form.Form.the-variants.{Spare, Source, MessageType, Service, Identification, Time, Batch, Sdps, Report, Station, Configuration, Range, Status, Statistics, Versions, Expansion, Purpose}
+
+pub record Category : Type 0 where
+  pub number : ℕ
+  -- the most specification octets
+  pub most : ℕ
+  pub fields : List Form
+  -- the fields that are always there (01 "Presence")
+  pub mandatory : List ℕ
+
+abbrev pub cat23 : Category
+cat23 = record {
+  number = 23;
+  most = 2;
+  fields =
+      Source  -- 1, 010
+      ∷ MessageType  -- 2, 000
+      ∷ Service  -- 3, 015
+      ∷ Time  -- 4, 070
+      ∷ Station  -- 5, 100
+      ∷ Configuration  -- 6, 101
+      ∷ Range  -- 7, 200
+      ∷ Status  -- 8, 110
+      ∷ Statistics  -- 9, 120
+      ∷ Spare  -- 10
+      ∷ Spare  -- 11
+      ∷ Spare  -- 12
+      ∷ Expansion  -- 13, RE
+      ∷ Purpose  -- 14, SP
+      ∷ [];
+  -- 000 and 070
+  mandatory = 2 ∷ 4 ∷ [];
+}
+
+abbrev pub cat65 : Category
+cat65 = record {
+  number = 65;
+  most = 2;
+  fields =
+      Source  -- 1, 010
+      ∷ MessageType  -- 2, 000
+      ∷ Identification  -- 3, 015
+      ∷ Time  -- 4, 030
+      ∷ Batch  -- 5, 020
+      ∷ Sdps  -- 6, 040
+      ∷ Report  -- 7, 050
+      ∷ Spare  -- 8
+      ∷ Spare  -- 9
+      ∷ Spare  -- 10
+      ∷ Spare  -- 11
+      ∷ Spare  -- 12
+      ∷ Expansion  -- 13, RE
+      ∷ Purpose  -- 14, SP
+      ∷ [];
+  -- 010, 000, 015 and 030
+  mandatory = 1 ∷ 2 ∷ 3 ∷ 4 ∷ [];
+}
+
+abbrev pub cat242 : Category
+cat242 = record {
+  number = 242;
+  most = 1;
+  fields =
+      Source  -- 1, 010
+      ∷ Time  -- 2, 140
+      ∷ Versions  -- 3, 550
+      ∷ Spare  -- 4
+      ∷ Spare  -- 5
+      ∷ Purpose  -- 6, SP
+      ∷ Expansion  -- 7, RE
+      ∷ [];
+  -- 010, 140 and 550
+  mandatory = 1 ∷ 2 ∷ 3 ∷ [];
+}
+
+-- the categories that the box reads
+abbrev pub known : ℕ → Bool
+known n = eqb n 23 || (eqb n 65 || eqb n 242)
+
+-- a category by its number; one that the box does not read has no field
+abbrev pub category : ℕ → Category
+category n =
+    pick (eqb n 23) cat23
+    (pick (eqb n 65) cat65
+    (pick (eqb n 242) cat242 (record { number = n; most = 0; fields = []; mandatory = [] })))
+
+-- what stands at a field; a field past the last is spare (01 "Refusal numbers")
+abbrev pub formAt : Category → ℕ → Form
+formAt c f = getD (Spare ∷ c .fields) f Spare
+
+abbrev pub layoutAt : Category → ℕ → Layout
+layoutAt c f = layout (formAt c f)
+
+-- with the kind and its sizes
+abbrev pub fieldAt : Category → ℕ → Field
+fieldAt c f = record { 0 = formAt c f; 1 = kindOf (layoutAt c f) }
+
+-- marks of fields as a number: bit f - 1 for field f
+abbrev pub marksOf : List ℕ → ℕ
+marksOf [] = 0
+marksOf (f ∷ fs) = 2 ^ (f - 1) + marksOf fs

@@ -1,0 +1,193 @@
+// The categories: a type for each, with its constants (document 01, "Block and field specification").
+ghost use mathlib.Core.Path.{_≡_};
+ghost use Rattle.layouts.specs.Categories.{cat23, cat65, cat242, known, category, fieldAt, marksOf};
+use crate::ends::Kind;
+use crate::form::Form;
+
+// What stands at a field: its form, and its kind with the sizes.
+pub struct Field(pub Form, pub Kind);
+
+pub const SPARE: Field = Field(Form::Spare, Kind::Spare);
+
+pub struct Cat23;
+
+impl Cat23 {
+    pub const NUMBER: u8 = 23;
+
+    // The most specification octets.
+    pub const MOST: u8 = 2;
+
+    // Bit f - 1 is field f: 000 and 070.
+    pub const MANDATORY: u32 = 0b1010;
+
+    pub const I010: Field = Field(Form::Source, Kind::Fixed(2));
+
+    pub const I000: Field = Field(Form::MessageType, Kind::Fixed(1));
+
+    pub const I015: Field = Field(Form::Service, Kind::Fixed(1));
+
+    pub const I070: Field = Field(Form::Time, Kind::Fixed(3));
+
+    pub const I100: Field = Field(Form::Station, Kind::Extended(1, 1));
+
+    pub const I101: Field = Field(Form::Configuration, Kind::Extended(2, 1));
+
+    pub const I200: Field = Field(Form::Range, Kind::Fixed(1));
+
+    pub const I110: Field = Field(Form::Status, Kind::Extended(1, 0));
+
+    pub const I120: Field = Field(Form::Statistics, Kind::Repeated(6));
+
+    pub const RE: Field = Field(Form::Expansion, Kind::Explicit);
+
+    pub const SP: Field = Field(Form::Purpose, Kind::Explicit);
+
+    fn field(f: usize) -> Field
+        ensures { λ r. ⌜ r ≡ fieldAt cat23 f ⌝ }
+    {
+        match f {
+            1 => Self::I010,
+            2 => Self::I000,
+            3 => Self::I015,
+            4 => Self::I070,
+            5 => Self::I100,
+            6 => Self::I101,
+            7 => Self::I200,
+            8 => Self::I110,
+            9 => Self::I120,
+            13 => Self::RE,
+            14 => Self::SP,
+            _ => SPARE,
+        }
+    }
+}
+
+pub struct Cat65;
+
+impl Cat65 {
+    pub const NUMBER: u8 = 65;
+
+    // The most specification octets.
+    pub const MOST: u8 = 2;
+
+    // Bit f - 1 is field f: 010, 000, 015 and 030.
+    pub const MANDATORY: u32 = 0b1111;
+
+    pub const I010: Field = Field(Form::Source, Kind::Fixed(2));
+
+    pub const I000: Field = Field(Form::MessageType, Kind::Fixed(1));
+
+    pub const I015: Field = Field(Form::Identification, Kind::Fixed(1));
+
+    pub const I030: Field = Field(Form::Time, Kind::Fixed(3));
+
+    pub const I020: Field = Field(Form::Batch, Kind::Fixed(1));
+
+    pub const I040: Field = Field(Form::Sdps, Kind::Fixed(1));
+
+    pub const I050: Field = Field(Form::Report, Kind::Fixed(1));
+
+    pub const RE: Field = Field(Form::Expansion, Kind::Explicit);
+
+    pub const SP: Field = Field(Form::Purpose, Kind::Explicit);
+
+    fn field(f: usize) -> Field
+        ensures { λ r. ⌜ r ≡ fieldAt cat65 f ⌝ }
+    {
+        match f {
+            1 => Self::I010,
+            2 => Self::I000,
+            3 => Self::I015,
+            4 => Self::I030,
+            5 => Self::I020,
+            6 => Self::I040,
+            7 => Self::I050,
+            13 => Self::RE,
+            14 => Self::SP,
+            _ => SPARE,
+        }
+    }
+}
+
+pub struct Cat242;
+
+impl Cat242 {
+    pub const NUMBER: u8 = 242;
+
+    // The most specification octets.
+    pub const MOST: u8 = 1;
+
+    // Bit f - 1 is field f: 010, 140 and 550.
+    pub const MANDATORY: u32 = 0b111;
+
+    pub const I010: Field = Field(Form::Source, Kind::Fixed(2));
+
+    pub const I140: Field = Field(Form::Time, Kind::Fixed(3));
+
+    pub const I550: Field = Field(Form::Versions, Kind::Repeated(3));
+
+    pub const SP: Field = Field(Form::Purpose, Kind::Explicit);
+
+    pub const RE: Field = Field(Form::Expansion, Kind::Explicit);
+
+    fn field(f: usize) -> Field
+        ensures { λ r. ⌜ r ≡ fieldAt cat242 f ⌝ }
+    {
+        match f {
+            1 => Self::I010,
+            2 => Self::I140,
+            3 => Self::I550,
+            6 => Self::SP,
+            7 => Self::RE,
+            _ => SPARE,
+        }
+    }
+}
+
+// Whether the box reads a category.
+pub fn is_known(number: u8) -> bool
+    ensures { λ r. ⌜ r ≡ known number ⌝ }
+{
+    match number {
+        Cat23::NUMBER => true,
+        Cat65::NUMBER => true,
+        Cat242::NUMBER => true,
+        _ => false,
+    }
+}
+
+// The most specification octets of a category.
+pub fn most_of(number: u8) -> u8
+    ensures { λ r. ⌜ r ≡ category number .most ⌝ }
+{
+    match number {
+        Cat23::NUMBER => Cat23::MOST,
+        Cat65::NUMBER => Cat65::MOST,
+        Cat242::NUMBER => Cat242::MOST,
+        _ => 0,
+    }
+}
+
+// The marks that every record of a category has.
+pub fn mandatory_of(number: u8) -> u32
+    ensures { λ r. ⌜ r ≡ marksOf (category number .mandatory) ⌝ }
+{
+    match number {
+        Cat23::NUMBER => Cat23::MANDATORY,
+        Cat65::NUMBER => Cat65::MANDATORY,
+        Cat242::NUMBER => Cat242::MANDATORY,
+        _ => 0,
+    }
+}
+
+// What stands at a field of a category; a field past the last is spare.
+pub fn field_of(number: u8, f: usize) -> Field
+    ensures { λ r. ⌜ r ≡ fieldAt (category number) f ⌝ }
+{
+    match number {
+        Cat23::NUMBER => Cat23::field(f),
+        Cat65::NUMBER => Cat65::field(f),
+        Cat242::NUMBER => Cat242::field(f),
+        _ => SPARE,
+    }
+}
