@@ -12,7 +12,7 @@ use Rattle.octets.specs.Choice.{pick}
 use Rattle.octets.specs.Numbers.{number}
 use Rattle.octets.specs.Refusals.{passesEnd, noCount, outOfRange}
 use Rattle.layouts.specs.Groups.{values, fits, Group}
-use Rattle.layouts.specs.Formats.{Format, stop, ask, Trace, fitsIn, got}
+use Rattle.layouts.specs.Formats.{Format, stop, Trace, fitsIn, got}
 use Rattle.layouts.specs.Offsets.{runAt, traceAt, groupsAt}
 use Rattle.layouts.specs.Layouts.{octet, times, counted, format, entryOctets}
 use Rattle.layouts.specs.Tables.{counter, version, layout}

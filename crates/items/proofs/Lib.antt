@@ -5,3 +5,4 @@ pub mod ReadBack
 pub mod Judged
 pub mod Written
 pub mod Passed
+pub mod Examples

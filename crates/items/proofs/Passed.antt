@@ -9,7 +9,7 @@ use lib.ListN.{length}
 use Rattle.octets.specs.Choice.{pick}
 use Rattle.octets.specs.Numbers.{Octets}
 use Rattle.octets.specs.Refusals.{outOfRange}
-use Rattle.layouts.specs.Formats.{Answer, refused, got, Format, Trace, fitsIn}
+use Rattle.layouts.specs.Formats.{Answer, refused, got, Trace, fitsIn}
 use Rattle.layouts.specs.Offsets.{runAt, itemAt, traceAt}
 use Rattle.layouts.specs.Layouts.{format, kindOf}
 use Rattle.layouts.specs.Ends.{endOf, kindEnd}

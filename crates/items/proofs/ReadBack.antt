@@ -1,15 +1,15 @@
 -- What is written of an item is read back: the same values, entries and content. Assumes nothing.
-use mathlib.Core.Path.{_≡_, refl, sym, ap, _∙_}
+use mathlib.Core.Path.{_≡_, refl}
 use mathlib.Core.Bool.{Bool, true, false}
 use mathlib.Core.List.{List, [], _∷_}
-use Prim.Native.Nat.{ℕ, zero, suc, _+_, _-_, _*_, _≤_}
+use Prim.Native.Nat.{ℕ, suc, _+_, _-_, _*_, _≤_}
 use native.Mathlib.Nat.{add-zero, add-sub-cancel}
 use native.Mathlib.Omega.{arith}
 use lib.Dec.{ltb, eqb}
 use lib.ListN.{length}
 use Rattle.octets.specs.Choice.{pick, when}
 use Rattle.octets.specs.Numbers.{laid}
-use Rattle.layouts.specs.Formats.{got, Format, Trace, fitsIn}
+use Rattle.layouts.specs.Formats.{got, Format, fitsIn}
 use Rattle.layouts.specs.Offsets.{itemAt, traceAt}
 use Rattle.items.specs.Typed.{val, itemOf, formOf, settled, Given, exact, placed, given, traceOf, givenTrace, givenRefusal, itemFormat, itemRefusal, itemOctets}
 use Rattle.layouts.proofs.Windows.{run-trace, run-read-back, item-read-back}

@@ -1,21 +1,19 @@
--- Which values fit (`any-fits`, `in-bits`, `extension`), the form of a typed item (`form-of`), and an arm of a match that stands for
+-- Which values fit (`in-bits`, `extension`), the form of a typed item (`form-of`), and an arm of a match that stands for
 -- several variants (`each-of`). Assumes nothing.
 use mathlib.Core.Path.{_≡_, refl, subst⁻¹}
-use mathlib.Core.Bool.{Bool, true, false, _&&_, and-true, and-false, false≢true}
+use mathlib.Core.Bool.{Bool, true, false, _&&_, and-true, and-false}
 use mathlib.Core.List.{List, [], _∷_}
 use mathlib.Core.Logic.{inl, inr}
-use Prim.Native.Nat.{ℕ, zero, suc, _/_, _^_, _<_}
-use native.Mathlib.Nat.{mod-lt}
+use Prim.Native.Nat.{ℕ, zero, suc, _<_}
 use native.Mathlib.Omega.{arith}
 use lib.Dec.{leb, ltb, eqb}
-use lib.Pow.{pow-pos}
 use borrow.Author.Tests.{lt-ltb, le-ltb, ne-eqb, leb-true}
 use borrow.Enum.Known.{ValuesAt, at, lives-at}
 use denote.Enum.Declared.{Record, declared, tagOf}
 use types.Run.{OneOf}
 use Rattle.octets.specs.Choice.{pick, when}
 use Rattle.octets.specs.Refusals.{pastLast}
-use Rattle.layouts.specs.Groups.{Part, spare, value, bits, values, fits}
+use Rattle.layouts.specs.Groups.{value, values, fits}
 use Rattle.layouts.specs.Formats.{done, Trace, fitsIn}
 use Rattle.layouts.specs.Layouts.{chain}
 use Rattle.layouts.specs.Tables.{period}
@@ -42,23 +40,6 @@ module _ (N : Record) (P : N .D → Type 0) where
   each-of (k ∷ []) d e = is-one k d e
   each-of (k ∷ j ∷ ks) d (inl e) = λ p. found (j ∷ ks) d (is-one k d e p)
   each-of (k ∷ j ∷ ks) d (inr h) = λ p. each-of (j ∷ ks) d h
-
-never : {A : Type 0} → false ≡ true → A
-never h = absurd (false≢true h)
-
--- each value's test admits every number
-abbrev pub AllAny : List Part → Type 0
-AllAny [] = Unit {0}
-AllAny (spare k ∷ ps) = AllAny ps
-AllAny (value k ok ∷ ps) = ((v : ℕ) → ok v ≡ true) × AllAny ps
-
--- Where every test admits all, the values in a number fit.
-pub any-fits : (ps : List Part) (x : ℕ) → AllAny ps → fits ps (values ps x) ≡ true
-unfolding fits values
-any-fits [] x a = refl
-any-fits (spare k ∷ ps) x a = any-fits ps x a
-any-fits (value k ok ∷ ps) x a =
-    rw (lt-ltb _ _ (mod-lt (x / 2 ^ bits ps) (pow-pos k)), a .0 _, any-fits ps x (a .1))
 
 -- A value in a range below m needs no test that it is below m.
 pub in-bits : (m a k : ℕ) → k < m → (v : ℕ) → (ltb v m && (leb a v && leb v k)) ≡ (leb a v && leb v k)

@@ -2,16 +2,16 @@
 use mathlib.Core.Path.{_≡_, refl, sym, ap, _∙_}
 use mathlib.Core.Bool.{Bool, true, false, false≢true}
 use mathlib.Core.List.{List, [], _∷_, _++_, append-nil}
-use Prim.Native.Nat.{ℕ, zero, suc, _+_, _-_, _*_, _%_, _≤_}
+use Prim.Native.Nat.{ℕ, _+_, _-_, _*_, _%_, _≤_}
 use native.Mathlib.Nat.{mul-one, add-sub-cancel}
 use native.Mathlib.Omega.{arith}
-use lib.Dec.{ltb, leb, eqb}
+use lib.Dec.{leb}
 use lib.ListN.{length, getD, length-append}
 use borrow.Author.Tests.{eqb-true, eqb-false, eq-eqb, ne-eqb}
 use Rattle.octets.specs.Choice.{pick, when, odd}
 use Rattle.octets.specs.Numbers.{octets, laid}
 use Rattle.octets.specs.Refusals.{noCount, pastLast}
-use Rattle.layouts.specs.Groups.{values, merge, fits, Group}
+use Rattle.layouts.specs.Groups.{merge, fits, Group}
 use Rattle.layouts.specs.Formats.{Format, done, stop, ask, Trace, fitsIn, put}
 use Rattle.layouts.specs.Layouts.{Layout, unused, fixed, extended, repeated, explicit, fx, octet, times, chain, counted, format, kindOf, firstGroup, entryGroup, entryOctets}
 use Rattle.layouts.specs.Tables.{source, messageType, service, time, sdps, report, station, period, configuration, status, counter, version, layout}

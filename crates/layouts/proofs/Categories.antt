@@ -6,8 +6,7 @@ use Prim.Native.Nat.{ℕ, zero, suc, _+_}
 use native.Mathlib.Nat.{zero-add, add-zero, add-suc, suc-add}
 use lib.Dec.{eqb}
 use lib.ListN.{getD}
-use borrow.Author.Tests.{eqb-true, ne-eqb}
-use Rattle.octets.specs.Choice.{pick}
+use borrow.Author.Tests.{ne-eqb}
 use Rattle.layouts.specs.Categories.{Category, known, category, fieldAt}
 use Rattle.layouts.specs.Layouts.{kindOf}
 use Rattle.layouts.specs.Tables.{layout}

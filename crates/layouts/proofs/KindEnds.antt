@@ -1,5 +1,5 @@
--- The end of an item by its kind is where reading by its format ends; an item that ends has an octet at least and lies within the block;
--- so many groups with room for them are read. Assumes nothing.
+-- The end of an item by its kind is where reading by its format ends; an item that ends has an octet at least and lies within the
+-- block. Assumes nothing.
 use mathlib.Core.Path.{_≡_, refl, sym, _∙_, subst}
 use mathlib.Core.Bool.{Bool, true, false, _&&_, false≢true}
 use mathlib.Core.List.{List, [], _∷_}
@@ -14,7 +14,7 @@ use Rattle.octets.specs.Numbers.{Octets, number}
 use Rattle.octets.specs.Refusals.{passesEnd, noCount, pastLast}
 use Rattle.layouts.specs.Groups.{Part, spare, value, values, Group}
 use Rattle.layouts.specs.Formats.{Answer, refused, got, andThen, Format, done, stop, ask, Trace}
-use Rattle.layouts.specs.Offsets.{runAt, groupsAt}
+use Rattle.layouts.specs.Offsets.{runAt}
 use Rattle.layouts.specs.Layouts.{Layout, unused, fixed, extended, repeated, explicit, octet, lastOf, fx, times, chain, counted, format, kindOf}
 use Rattle.layouts.specs.Ends.{endOf, roomEnd, countedEnd, chainEnd, kindEnd}
 use Rattle.layouts.specs.Tables.{layout}
@@ -169,16 +169,6 @@ module _ (s : List ℕ) (len : ℕ) where
   end-times zero g at = rw (zero-mul, le-ltb (len - at) 0 (omega arith), add-zero)
   end-times (suc n) g at =
       end-ask g (λ v. times n g) at ∙ rw (end-times n g (at + g .wide), suc-mul) (room-two len at (g .wide) (n * g .wide))
-
-  -- so many groups with room for them are read
-  pub times-got : (n : ℕ) (g : Group) (at : ℕ) → n * g .wide ≤ len - at
-      → runAt s len (times n g) at ≡ got (groupsAt n g s at) (at + n * g .wide)
-  unfolding times runAt groupsAt
-  times-got zero g at h = rw (zero-mul, add-zero)
-  times-got (suc n) g at h =
-      let m = suc-mul n (g .wide) in
-      let same : at + g .wide + n * g .wide ≡ at + suc n * g .wide = omega arith in
-      rw (le-ltb (len - at) (g .wide) (omega arith), times-got n g (at + g .wide) (omega arith), same)
 
   module _ (o : Octets s) where
     count-is : (at : ℕ) → getD (values (octet .parts) (number 1 s at)) 0 0 ≡ getD s at 0

@@ -1,5 +1,4 @@
 -- Where an item ends, by its kind: the octet after its last one, or 7, 8 and 9 as they are met (01 "Reading order").
-use mathlib.Core.Bool.{Bool}
 use mathlib.Core.List.{List}
 use Prim.Native.Nat.{ℕ, zero, suc, _+_, _*_, _-_}
 use lib.Dec.{leb, ltb}

@@ -1,3 +1,4 @@
 pub mod Numbers
 pub mod Laying
+pub mod Unique
 pub mod Examples

@@ -1,6 +1,5 @@
 -- `item_at` reads the item that the format reads. Assumes nothing.
-use mathlib.Core.Path.{_∙_, ap}
-use native.Mathlib.Omega.{arith}
+use mathlib.Core.Path.{_∙_}
 use borrow.Author.Needs.{needs}
 use Rattle.items.proofs.Items.{first-few, item-code}
 use Rattle.items.proofs.item.item_at.Statement.{statement}

@@ -1,5 +1,4 @@
 -- `versions_refusal`: what refuses the place, and then a version out of range. Assumes nothing.
-use mathlib.Core.Path.{sym, _∙_}
 use borrow.Author.Needs.{needs}
 use Rattle.items.proofs.Judged.{versions-refused, versions-lie, versions-judged}
 use Rattle.items.proofs.item.versions_refusal.Statement.{statement}
