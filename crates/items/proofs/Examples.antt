@@ -1,15 +1,13 @@
 -- Items of document 01's worked examples, computed over the definitions. Assumes nothing.
 use mathlib.Core.Path.{_≡_, refl}
-use mathlib.Core.Bool.{true, false}
-use mathlib.Core.List.{List, [], _∷_}
-use Prim.Native.Nat.{ℕ}
+use mathlib.Core.List.{[], _∷_}
 use Rattle.octets.specs.Numbers.{number, octets}
 use Rattle.layouts.specs.Groups.{values, merge, fits}
 use Rattle.layouts.specs.Formats.{refused, got, fitsIn, put}
 use Rattle.layouts.specs.Offsets.{runAt, itemAt, groupsAt}
 use Rattle.layouts.specs.Layouts.{times, chain, counted, format}
 use Rattle.layouts.specs.Tables.{sdps, counter, layout}
-use Rattle.layouts.specs.Categories.{cat242, category, formAt}
+use Rattle.layouts.specs.Categories.{category, formAt}
 use Rattle.layouts.specs.declared.form.Form.{Form}
 use Rattle.items.specs.Typed.{counterOf, itemRefusal, itemOctets}
 use Rattle.items.specs.declared.typed.Item.{Item}

@@ -24,6 +24,11 @@ use Rattle.layouts.specs.declared.form.Form.{Form}
 use Rattle.layouts.specs.declared.form.Form.the-variants as form
 use Rattle.items.specs.declared.typed.Item.the-variants as item
 
+-- an octet as the code reads it
+pub one-octet : (s : List ℕ) (o x : ℕ) → x ≡ getD s (o + 0) 0 → x ≡ number 1 s o
+unfolding number
+one-octet s o x h = omega arith
+
 number-one : (s : List ℕ) (o : ℕ) → number 1 s o ≡ getD s o 0
 unfolding number
 number-one s o = rw add-zero (omega arith)

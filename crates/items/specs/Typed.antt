@@ -1,8 +1,8 @@
 -- Typed items: of the values read, and the values of a typed item; and what refuses a typed item (01 "Writing one record").
 use mathlib.Core.Bool.{Bool, true}
 use mathlib.Core.List.{List, [], _∷_, _++_}
-use Prim.Native.Nat.{ℕ, zero, _+_, _*_, _-_}
-use lib.Dec.{ltb, eqb}
+use Prim.Native.Nat.{ℕ, _+_, _*_, _-_, _%_}
+use lib.Dec.{leb, ltb, eqb}
 use lib.ListN.{length, getD}
 use Rattle.octets.specs.Choice.{pick, when}
 use Rattle.octets.specs.Numbers.{number, octets}
@@ -18,7 +18,13 @@ use Rattle.layouts.specs.declared.form.Form.{Form}
 use Rattle.layouts.specs.declared.form.Form.the-variants as form
 use Rattle.items.specs.declared.typed.Item.{Item}
 use Rattle.items.specs.declared.typed.Item.the-variants as item
+use Rattle.items.specs.declared.typed.Configuration.{Configuration}
 use Rattle.items.specs.declared.typed.Place.{Place}
+use Rattle.items.specs.declared.typed.Sdps.{Sdps}
+use Rattle.items.specs.declared.typed.Service.{Service}
+use Rattle.items.specs.declared.typed.Source.{Source}
+use Rattle.items.specs.declared.typed.Station.{Station}
+use Rattle.items.specs.declared.typed.TimeOfDay.{TimeOfDay}
 use Rattle.items.specs.declared.typed.Counter.{Counter}
 use Rattle.items.specs.declared.typed.Version.{Version}
 
@@ -26,18 +32,21 @@ use Rattle.items.specs.declared.typed.Version.{Version}
 abbrev pub val : Trace → ℕ → ℕ → ℕ
 val tr j i = getD (getD tr j []) i 0
 
--- the item whose values are these; its entries or content, behind its first octet, start at an offset
-abbrev pub itemOf : Form → Trace → ℕ → Item
-itemOf form.Spare tr at = item.Absent
-itemOf form.Source tr at = item.Source (record { sac = val tr 0 0; sic = val tr 0 1 })
-itemOf form.MessageType tr at = item.MessageType (val tr 0 0)
-itemOf form.Service tr at = item.Service (record { sid = val tr 0 0; styp = val tr 0 1 })
-itemOf form.Identification tr at = item.Identification (val tr 0 0)
-itemOf form.Time tr at = item.Time (record { 0 = val tr 0 0 })
-itemOf form.Batch tr at = item.Batch (val tr 0 0)
-itemOf form.Sdps tr at = item.Sdps (record { nogo = val tr 0 0; ovl = val tr 0 1; tsv = val tr 0 2; pss = val tr 0 3 })
-itemOf form.Report tr at = item.Report (val tr 0 0)
-itemOf form.Station tr at = item.Station (record {
+-- the typed forms of an item's values; of an item that is not there, zeros
+abbrev pub sourceOf : Trace → Source
+sourceOf tr = record { sac = val tr 0 0; sic = val tr 0 1 }
+
+abbrev pub serviceOf : Trace → Service
+serviceOf tr = record { sid = val tr 0 0; styp = val tr 0 1 }
+
+abbrev pub timeOf : Trace → TimeOfDay
+timeOf tr = record { 0 = val tr 0 0 }
+
+abbrev pub sdpsOf : Trace → Sdps
+sdpsOf tr = record { nogo = val tr 0 0; ovl = val tr 0 1; tsv = val tr 0 2; pss = val tr 0 3 }
+
+abbrev pub stationOf : Trace → Station
+stationOf tr = record {
   nogo = val tr 0 0;
   odp = val tr 0 1;
   oxt = val tr 0 2;
@@ -47,13 +56,29 @@ itemOf form.Station tr at = item.Station (record {
   rn = val tr 0 6;
   extended = val tr 0 7;
   gssp = record { 0 = val tr 1 0 };
-})
-itemOf form.Configuration tr at = item.Configuration (record {
+}
+
+abbrev pub configurationOf : Trace → Configuration
+configurationOf tr = record {
   rp = record { 0 = val tr 0 0 };
   sc = val tr 0 1;
   extended = val tr 0 2;
   ssrp = record { 0 = val tr 1 0 };
-})
+}
+
+-- the item whose values are these; its entries or content, behind its first octet, start at an offset
+abbrev pub itemOf : Form → Trace → ℕ → Item
+itemOf form.Spare tr at = item.Absent
+itemOf form.Source tr at = item.Source (sourceOf tr)
+itemOf form.MessageType tr at = item.MessageType (val tr 0 0)
+itemOf form.Service tr at = item.Service (serviceOf tr)
+itemOf form.Identification tr at = item.Identification (val tr 0 0)
+itemOf form.Time tr at = item.Time (timeOf tr)
+itemOf form.Batch tr at = item.Batch (val tr 0 0)
+itemOf form.Sdps tr at = item.Sdps (sdpsOf tr)
+itemOf form.Report tr at = item.Report (val tr 0 0)
+itemOf form.Station tr at = item.Station (stationOf tr)
+itemOf form.Configuration tr at = item.Configuration (configurationOf tr)
 itemOf form.Range tr at = item.Range (val tr 0 0)
 itemOf form.Status tr at = item.Status (val tr 0 0)
 itemOf form.Statistics tr at = item.Statistics (record { at = at; count = val tr 0 0 })
@@ -114,6 +139,10 @@ settled at (item.Statistics p) = item.Statistics (record { at = at; count = p .c
 settled at (item.Versions p) = item.Versions (record { at = at; count = p .count })
 settled at (item.Expansion p) = item.Expansion (record { at = at; count = p .count })
 settled at (item.Purpose p) = item.Purpose (record { at = at; count = p .count })
+
+-- where the entries or content of an item at an offset lie, whose count octet has e more; nowhere from the end on
+abbrev pub placeAt : List ℕ → ℕ → ℕ → Place
+placeAt s at e = pick (leb (length s) at) (record { at = 0; count = 0 }) (record { at = at + 1; count = getD s at 0 % 256 - e })
 
 -- what a typed item gives: values; or groups at a place of the source, counted by an octet that has e more
 pub data Given : Type 0 where

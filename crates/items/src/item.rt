@@ -10,13 +10,19 @@ ghost use Rattle.octets.specs.Refusals.{passesEnd, noCount, outOfRange};
 ghost use Rattle.layouts.specs.Groups.{values};
 ghost use Rattle.layouts.specs.Formats.{fitsIn, put};
 ghost use Rattle.layouts.specs.Offsets.{itemAt, traceAt, extensionAt, groupsAt};
-ghost use Rattle.layouts.specs.Layouts.{times, format, kindOf, firstOctets, entryOctets, entryGroup};
+ghost use Rattle.layouts.specs.Layouts.{Layout, octet, times, format, kindOf, firstOctets, entryOctets, entryGroup};
 ghost use Rattle.layouts.specs.Ends.{endOf};
 ghost use Rattle.layouts.specs.Tables.{counter, version, layout};
-ghost use Rattle.items.specs.Typed.{itemOf, fieldOf, countedOctets, itemFormat, given, exactFits, itemRefusal, itemOctets, sizeOf, counterOf, versionOf};
+ghost use Rattle.items.specs.Typed.{itemOf, fieldOf, countedOctets, itemFormat, given, exactFits, itemRefusal, itemOctets, sizeOf, counterOf, versionOf, val, sourceOf, serviceOf, timeOf, sdpsOf, stationOf, configurationOf, placeAt};
+use crate::typed::Configuration;
 use crate::typed::Counter;
 use crate::typed::Item;
 use crate::typed::Place;
+use crate::typed::Sdps;
+use crate::typed::Service;
+use crate::typed::Source;
+use crate::typed::Station;
+use crate::typed::TimeOfDay;
 use crate::typed::Version;
 use layouts::category::Cat23;
 use layouts::category::Cat242;
@@ -328,5 +334,88 @@ pub fn pass(s: &[u8], len: usize, at: usize, field: Field) -> End
                 End::Refused(refusal::OUT_OF_RANGE)
             }
         }
+    }
+}
+
+// Typed items at an offset; from the slice's end on, zeros. Only for the next layer: the offset lies in the slice.
+pub fn source_at(s: &[u8], at: usize) -> Source
+    requires { ⌜ at ≤ length (now s) ⌝ }
+    ensures { λ r. ⌜ r ≡ sourceOf (traceAt (format (layout Form.Source)) (now (s .entry)) at) ⌝ }
+{
+    let field = Cat23::I010;
+    let kind = field.1;
+    crate::values::source_of(octets::read(s, at, first_octets(kind)))
+}
+
+pub fn service_at(s: &[u8], at: usize) -> Service
+    requires { ⌜ at ≤ length (now s) ⌝ }
+    ensures { λ r. ⌜ r ≡ serviceOf (traceAt (format (layout Form.Service)) (now (s .entry)) at) ⌝ }
+{
+    crate::values::service_of(octets::octet(s, at, 0))
+}
+
+pub fn time_at(s: &[u8], at: usize) -> TimeOfDay
+    requires { ⌜ at ≤ length (now s) ⌝ }
+    ensures { λ r. ⌜ r ≡ timeOf (traceAt (format (layout Form.Time)) (now (s .entry)) at) ⌝ }
+{
+    let field = Cat23::I070;
+    let kind = field.1;
+    TimeOfDay((octets::read(s, at, first_octets(kind)) % 16777216) as u32)
+}
+
+pub fn sdps_at(s: &[u8], at: usize) -> Sdps
+    requires { ⌜ at ≤ length (now s) ⌝ }
+    ensures { λ r. ⌜ r ≡ sdpsOf (traceAt (format (layout Form.Sdps)) (now (s .entry)) at) ⌝ }
+{
+    crate::values::sdps_of(octets::octet(s, at, 0))
+}
+
+pub fn station_at(s: &[u8], at: usize) -> Station
+    requires { ⌜ at ≤ length (now s) ⌝ }
+    ensures { λ r. ⌜ r ≡ stationOf (traceAt (format (layout Form.Station)) (now (s .entry)) at) ⌝ }
+{
+    let field = Cat23::I100;
+    let kind = field.1;
+    let first = octets::read(s, at, first_octets(kind));
+    crate::values::station_of(first, extension_at(s, at, kind, first))
+}
+
+pub fn configuration_at(s: &[u8], at: usize) -> Configuration
+    requires { ⌜ at ≤ length (now s) ⌝ }
+    ensures { λ r. ⌜ r ≡ configurationOf (traceAt (format (layout Form.Configuration)) (now (s .entry)) at) ⌝ }
+{
+    let field = Cat23::I101;
+    let kind = field.1;
+    let first = octets::read(s, at, first_octets(kind));
+    crate::values::configuration_of(first, extension_at(s, at, kind, first))
+}
+
+// An item of one octet that is one value.
+pub fn octet_at(s: &[u8], at: usize) -> u8
+    requires { ⌜ at ≤ length (now s) ⌝ }
+    ensures { λ r. ⌜ r ≡ val (traceAt (format (Layout.fixed octet)) (now (s .entry)) at) 0 0 ⌝ }
+{
+    (octets::octet(s, at, 0) % 256) as u8
+}
+
+pub fn status_at(s: &[u8], at: usize) -> u8
+    requires { ⌜ at ≤ length (now s) ⌝ }
+    ensures { λ r. ⌜ r ≡ val (traceAt (format (layout Form.Status)) (now (s .entry)) at) 0 0 ⌝ }
+{
+    (octets::octet(s, at, 0) / 2 % 8) as u8
+}
+
+// Where entries or content lie, whose count octet has extra more; nowhere from the slice's end on.
+pub fn place_at(s: &[u8], at: usize, extra: usize) -> Place
+    requires { ⌜ at ≤ length (now s) ⌝ }
+    ensures { λ r. ⌜ r ≡ placeAt (now (s .entry)) at extra ⌝ }
+{
+    if s.len() <= at {
+        return Place { at: 0, count: 0 };
+    }
+    let n = (octets::octet(s, at, 0) % 256) as usize;
+    Place {
+        at: at + 1,
+        count: if n < extra { 0 } else { n - extra },
     }
 }

@@ -7,8 +7,8 @@ ghost use lib.Dec.{leb, eqb};
 ghost use Rattle.octets.specs.Choice.{pick};
 ghost use Rattle.layouts.specs.Groups.{values, merge};
 ghost use Rattle.layouts.specs.Layouts.{firstGroup, entryGroup};
-ghost use Rattle.layouts.specs.Tables.{period, counter, version, layout};
-ghost use Rattle.items.specs.Typed.{itemOf, formOf, itemFormat, given, firstNumber, secondNumber, placeOf, exactFits, counterOf, versionOf};
+ghost use Rattle.layouts.specs.Tables.{source, service, sdps, station, configuration, period, counter, version, layout};
+ghost use Rattle.items.specs.Typed.{itemOf, formOf, itemFormat, given, firstNumber, secondNumber, placeOf, exactFits, counterOf, versionOf, sourceOf, serviceOf, sdpsOf, stationOf, configurationOf};
 use crate::typed::Configuration;
 use crate::typed::Counter;
 use crate::typed::HalfSeconds;
@@ -34,48 +34,78 @@ fn content_of(length: u64, behind: usize) -> Place
     }
 }
 
+pub fn source_of(first: u64) -> Source
+    ensures { λ r. ⌜ r ≡ sourceOf (values (source .parts) first ∷ []) ⌝ }
+{
+    Source {
+        sac: (first / 256 % 256) as u8,
+        sic: (first % 256) as u8,
+    }
+}
+
+pub fn service_of(first: u64) -> Service
+    ensures { λ r. ⌜ r ≡ serviceOf (values (service .parts) first ∷ []) ⌝ }
+{
+    Service {
+        sid: (first / 16 % 16) as u8,
+        styp: (first % 16) as u8,
+    }
+}
+
+pub fn sdps_of(first: u64) -> Sdps
+    ensures { λ r. ⌜ r ≡ sdpsOf (values (sdps .parts) first ∷ []) ⌝ }
+{
+    Sdps {
+        nogo: (first / 64 % 4) as u8,
+        ovl: (first / 32 % 2) as u8,
+        tsv: (first / 16 % 2) as u8,
+        pss: (first / 4 % 4) as u8,
+    }
+}
+
+pub fn station_of(first: u64, second: u64) -> Station
+    ensures { λ r. ⌜ r ≡ stationOf (values (station .parts) first ∷ values (period .parts) second ∷ []) ⌝ }
+{
+    Station {
+        nogo: (first / 128 % 2) as u8,
+        odp: (first / 64 % 2) as u8,
+        oxt: (first / 32 % 2) as u8,
+        msc: (first / 16 % 2) as u8,
+        tsv: (first / 8 % 2) as u8,
+        spo: (first / 4 % 2) as u8,
+        rn: (first / 2 % 2) as u8,
+        extended: (first % 2) as u8,
+        gssp: Seconds((second / 2 % 128) as u8),
+    }
+}
+
+pub fn configuration_of(first: u64, second: u64) -> Configuration
+    ensures { λ r. ⌜ r ≡ configurationOf (values (configuration .parts) first ∷ values (period .parts) second ∷ []) ⌝ }
+{
+    Configuration {
+        rp: HalfSeconds((first / 256 % 256) as u8),
+        sc: (first / 32 % 8) as u8,
+        extended: (first % 2) as u8,
+        ssrp: Seconds((second / 2 % 128) as u8),
+    }
+}
+
 // The item of its first group's number and its extension's, which is 0 where there is none; entries or content start at behind.
 pub fn item_of(form: Form, first: u64, second: u64, behind: usize) -> Item
     ensures { λ r. ⌜ r ≡ itemOf form (values (firstGroup (layout form) .parts) first ∷ values (period .parts) second ∷ []) behind ⌝ }
 {
     match form {
         Form::Spare => Item::Absent,
-        Form::Source => Item::Source(Source {
-            sac: (first / 256 % 256) as u8,
-            sic: (first % 256) as u8,
-        }),
+        Form::Source => Item::Source(source_of(first)),
         Form::MessageType => Item::MessageType((first % 256) as u8),
-        Form::Service => Item::Service(Service {
-            sid: (first / 16 % 16) as u8,
-            styp: (first % 16) as u8,
-        }),
+        Form::Service => Item::Service(service_of(first)),
         Form::Identification => Item::Identification((first % 256) as u8),
         Form::Time => Item::Time(TimeOfDay((first % 16777216) as u32)),
         Form::Batch => Item::Batch((first % 256) as u8),
-        Form::Sdps => Item::Sdps(Sdps {
-            nogo: (first / 64 % 4) as u8,
-            ovl: (first / 32 % 2) as u8,
-            tsv: (first / 16 % 2) as u8,
-            pss: (first / 4 % 4) as u8,
-        }),
+        Form::Sdps => Item::Sdps(sdps_of(first)),
         Form::Report => Item::Report((first % 256) as u8),
-        Form::Station => Item::Station(Station {
-            nogo: (first / 128 % 2) as u8,
-            odp: (first / 64 % 2) as u8,
-            oxt: (first / 32 % 2) as u8,
-            msc: (first / 16 % 2) as u8,
-            tsv: (first / 8 % 2) as u8,
-            spo: (first / 4 % 2) as u8,
-            rn: (first / 2 % 2) as u8,
-            extended: (first % 2) as u8,
-            gssp: Seconds((second / 2 % 128) as u8),
-        }),
-        Form::Configuration => Item::Configuration(Configuration {
-            rp: HalfSeconds((first / 256 % 256) as u8),
-            sc: (first / 32 % 8) as u8,
-            extended: (first % 2) as u8,
-            ssrp: Seconds((second / 2 % 128) as u8),
-        }),
+        Form::Station => Item::Station(station_of(first, second)),
+        Form::Configuration => Item::Configuration(configuration_of(first, second)),
         Form::Range => Item::Range((first % 256) as u8),
         Form::Status => Item::Status((first / 2 % 8) as u8),
         Form::Statistics => Item::Statistics(Place {

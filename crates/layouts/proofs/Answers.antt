@@ -36,3 +36,12 @@ through (got a q) h = (a, q, refl, h)
 abbrev pub OfGot : {R A : Type 0} → (A → R → Type 0) → Answer R A → Type 0
 OfGot P (refused n) = Unit {0}
 OfGot P (got a r) = P a r
+
+-- what holds of either of two, each by the test, holds of the one picked
+pub choose : {A : Type 0} (P : A → Type 0) (b : Bool) {x y : A} → (b ≡ true → P x) → (b ≡ false → P y) → P (pick b x y)
+choose P true f g = f refl
+choose P false f g = g refl
+
+pub of-pick : {A B : Type 0} (f : A → B) (b : Bool) (x y : A) → f (pick b x y) ≡ pick b (f x) (f y)
+of-pick f true x y = refl
+of-pick f false x y = refl

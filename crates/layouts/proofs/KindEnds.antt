@@ -18,7 +18,7 @@ use Rattle.layouts.specs.Offsets.{runAt}
 use Rattle.layouts.specs.Layouts.{Layout, unused, fixed, extended, repeated, explicit, octet, lastOf, fx, times, chain, counted, format, kindOf}
 use Rattle.layouts.specs.Ends.{endOf, roomEnd, countedEnd, chainEnd, kindEnd}
 use Rattle.layouts.specs.Tables.{layout}
-use Rattle.layouts.proofs.Answers.{both}
+use Rattle.layouts.proofs.Answers.{both, choose, of-pick}
 use Rattle.layouts.specs.declared.ends.End.{End}
 use Rattle.layouts.specs.declared.ends.End.the-variants.{At, Refused}
 use Rattle.layouts.specs.declared.form.Form.{Form}
@@ -86,22 +86,13 @@ number-low (suc k) s o h =
     let e : suc k - 1 ≡ k = omega arith in
     rw e (omega arith)
 
--- what holds of either of two, each by the test, holds of the one picked
-choose : {A : Type 0} (P : A → Type 0) (b : Bool) {x y : A} → (b ≡ true → P x) → (b ≡ false → P y) → P (pick b x y)
-choose P true f g = f refl
-choose P false f g = g refl
-
-of-pick : {A B : Type 0} (f : A → B) (b : Bool) (x y : A) → f (pick b x y) ≡ pick b (f x) (f y)
-of-pick f true x y = refl
-of-pick f false x y = refl
-
 -- values put in front do not move the end
-end-then : (v : List ℕ) (m : Answer ℕ Trace) → endOf (andThen m (λ tr q. got (v ∷ tr) q)) ≡ endOf m
-end-then v (refused n) = refl
-end-then v (got tr q) = refl
+pub end-then : {A B : Type 0} (f : A → B) (m : Answer ℕ A) → endOf (andThen m (λ a q. got (f a) q)) ≡ endOf m
+end-then f (refused n) = refl
+end-then f (got a q) = refl
 
 module _ (len : ℕ) where
-  none-left : (at : ℕ) → ltb (len - at) 1 ≡ leb len at
+  pub none-left : (at : ℕ) → ltb (len - at) 1 ≡ leb len at
   none-left at = go (leb len at) refl
     where
       go : (b : Bool) → leb len at ≡ b → ltb (len - at) 1 ≡ b
@@ -137,7 +128,7 @@ module _ (s : List ℕ) (len : ℕ) where
       → end (ask g k) at
       ≡ pick (ltb (len - at) (g .wide)) (Refused passesEnd) (end (k (values (g .parts) (number (g .wide) s at))) (at + g .wide))
   unfolding runAt
-  end-ask g k at = of-pick endOf (ltb (len - at) (g .wide)) _ _ ∙ rw (end-then (values (g .parts) (number (g .wide) s at)))
+  end-ask g k at = of-pick endOf (ltb (len - at) (g .wide)) _ _ ∙ rw (end-then (λ (tr : Trace). values (g .parts) (number (g .wide) s at) ∷ tr))
 
   -- a group with FX, and what follows by it
   end-fx : (g : Group) (f : Format) (at : ℕ) → 1 ≤ g .wide → flagged (g .parts) ≡ true

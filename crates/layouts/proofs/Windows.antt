@@ -31,13 +31,13 @@ behind s len (refused n) = refused n
 behind s len (got a at) = got a (window s len at)
 
 module _ {A B : Type 0} (s : List ℕ) (len : ℕ) where
-  behind-then : (m : Answer ℕ A) (f : A → ℕ → Answer ℕ B) (g : A → List ℕ → Answer (List ℕ) B)
+  pub behind-then : (m : Answer ℕ A) (f : A → ℕ → Answer ℕ B) (g : A → List ℕ → Answer (List ℕ) B)
       → ((a : A) (q : ℕ) → g a (window s len q) ≡ behind s len (f a q))
       → andThen (behind s len m) g ≡ behind s len (andThen m f)
   behind-then (refused n) f g h = refl
   behind-then (got a q) f g h = h a q
 
-behind-pick : {A : Type 0} (s : List ℕ) (len : ℕ) (b : Bool) (m n : Answer ℕ A)
+pub behind-pick : {A : Type 0} (s : List ℕ) (len : ℕ) (b : Bool) (m n : Answer ℕ A)
     → pick b (behind s len m) (behind s len n) ≡ behind s len (pick b m n)
 behind-pick s len true m n = refl
 behind-pick s len false m n = refl

@@ -1,0 +1,209 @@
+-- The theorems on blocks: what was written is read back, the normal form has the same records, and rewriting it changes nothing.
+-- Assumes nothing.
+use mathlib.Core.Path.{_≡_, refl, sym, ap, _∙_, subst}
+use mathlib.Core.Bool.{Bool, true, false}
+use mathlib.Core.List.{List, [], _∷_, _++_, append-assoc, append-nil}
+use Prim.Native.Nat.{ℕ, zero, suc, _+_, _*_, _≤_, _<_}
+use native.Mathlib.Omega.{arith}
+use lib.Dec.{ltb, eqb}
+use lib.ListN.{length, getD, take, length-append, length-take, List·getD-eq-default}
+use lib.Seq.{take-at, drop-at, getD-take}
+use borrow.Author.Tests.{ltb-true, ltb-false, le-ltb, eqb-true}
+use Rattle.octets.specs.Choice.{pick}
+use Rattle.octets.specs.Numbers.{Octets, number, octets}
+use Rattle.octets.proofs.Numbers.{number-lt, number-octets, length-octets}
+use Rattle.layouts.specs.Formats.{Answer, refused, got}
+use Rattle.layouts.specs.Categories.{Category, cat23, cat65, cat242, known, category}
+use Rattle.layouts.proofs.Answers.{both, and-yes}
+use Rattle.layouts.proofs.Formats.{Octets-drop}
+use Rattle.layouts.proofs.Windows.{window, window-long}
+use Rattle.blocks.specs.Specification.{zeros, putMarks}
+use Rattle.blocks.specs.Records.{Rec, recordOf, good, putRec}
+use Rattle.blocks.specs.Blocks.{Block, wrong, all, with, first, records, blockOf, putRecs, allGood, putBlock}
+use Rattle.blocks.proofs.RecordLaws.{record-held}
+use Rattle.blocks.proofs.RecordTheorems.{good-long, read-back, normal-short, rest-octets}
+
+-- Records one after the other
+
+marks-some : (gs : List ℕ) → 0 < length gs → 0 < length (putMarks gs)
+unfolding putMarks
+marks-some [] h = h
+marks-some (g ∷ gs) h = go (zeros gs)
+  where
+    go : (b : Bool) → 0 < length (pick b (g * 2 ∷ []) ((g * 2 + 1) ∷ putMarks gs))
+    go true = omega arith
+    go false = omega arith
+
+-- a written record has octets
+pub record-some : (c : Category) (r : Rec) → good c r ≡ true → 0 < length (putRec c r)
+unfolding putRec
+record-some c r h = rw length-append (omega (arith, marks-some (r .marks) (omega (arith, good-long c r h))))
+
+module _ (len : ℕ) (c : Category) where
+  pub records-step : (n : ℕ) (s : List ℕ) → 0 < length s
+      → records (suc n) len c s ≡ first len (length s) (recordOf c s) (λ t. records n len c t)
+  unfolding records
+  records-step n [] h = absurd (omega arith)
+  records-step n (x ∷ s) h = refl
+
+  pub records-none : (n : ℕ) → records n len c [] ≡ all (c .number) []
+  unfolding records
+  records-none zero = refl
+  records-none (suc n) = refl
+
+  pub records-put : (n : ℕ) (rs : List Rec) → allGood c rs ≡ true → length (putRecs c rs) ≤ n
+      → records n len c (putRecs c rs) ≡ all (c .number) rs
+  unfolding putRecs allGood
+  records-put n [] h l = records-none n
+  records-put zero (r ∷ rs) h l =
+      let (a, b) = both (good c r) (allGood c rs) h in
+      absurd (omega (arith, record-some c r a, simp length-append at l))
+  records-put (suc n) (r ∷ rs) h l =
+      let (a, b) = both (good c r) (allGood c rs) h in
+      let l' : length (putRec c r) + length (putRecs c rs) ≤ suc n = rw length-append at l in
+      let some : 0 < length (putRec c r ++ putRecs c rs) = rw length-append (omega (arith, record-some c r a)) in
+      records-step n (putRec c r ++ putRecs c rs) some
+      ∙ rw (read-back c r a (putRecs c rs), records-put n rs b (omega (arith, record-some c r a)))
+
+-- of a block: where all its records were read
+abbrev pub OfAll : (ℕ → List Rec → Type 0) → Block → Type 0
+OfAll P (wrong n at) = Unit {0}
+OfAll P (all cat rs) = P cat rs
+
+-- what the records that fill octets s are
+pub record Filled (c : Category) (s : List ℕ) (cat : ℕ) (rs : List Rec) : Type 0 where
+  pub same : cat ≡ c .number
+  pub fine : allGood c rs ≡ true
+  pub short : length (putRecs c rs) ≤ length s
+  pub some : 0 < length s → 0 < length (putRecs c rs)
+
+pub records-filled : (n len : ℕ) (c : Category) (s : List ℕ) → Octets s → OfAll (Filled c s) (records n len c s)
+unfolding records putRecs allGood
+records-filled zero len c [] o = record { same = refl; fine = refl; short = omega arith; some = λ h. h }
+records-filled zero len c (x ∷ s) o = tt
+records-filled (suc n) len c [] o = record { same = refl; fine = refl; short = omega arith; some = λ h. h }
+records-filled (suc n) len c (x ∷ s) o = go (recordOf c (x ∷ s)) refl (λ t. records n len c t) (records-filled n len c)
+  where
+    more : (r : Rec) (t : List ℕ) → recordOf c (x ∷ s) ≡ got r t → (b : Block) → OfAll (Filled c t) b
+        → OfAll (Filled c (x ∷ s)) (with r b)
+    more r t e (wrong m at) w = tt
+    more r t e (all cat rs) w =
+        let h = record-held c (x ∷ s) r t o e .fine in
+        let l = normal-short c (x ∷ s) r t o e in
+        record {
+          same = w .same;
+          fine = and-yes h (w .fine);
+          short = rw length-append (omega (arith, l, w .short));
+          some = λ k. rw length-append (omega (arith, record-some c r h));
+        }
+
+    go : (a : Answer (List ℕ) Rec) → recordOf c (x ∷ s) ≡ a → (f : List ℕ → Block)
+        → ((t : List ℕ) → Octets t → OfAll (Filled c t) (f t)) → OfAll (Filled c (x ∷ s)) (first len (length (x ∷ s)) a f)
+    go (refused m) e f ih = tt
+    go (got r t) e f ih = more r t e (f t) (ih t (rest-octets c (x ∷ s) r t o e))
+
+-- Blocks
+
+pub category-number : (cat : ℕ) → category cat .number ≡ cat
+category-number cat = go (eqb cat 23) (eqb cat 65) (eqb cat 242) (eqb-true cat 23) (eqb-true cat 65) (eqb-true cat 242)
+  where
+    go : (a b d : Bool) → (a ≡ true → cat ≡ 23) → (b ≡ true → cat ≡ 65) → (d ≡ true → cat ≡ 242)
+        → pick a cat23 (pick b cat65 (pick d cat242 (record { number = cat; most = 0; fields = []; mandatory = [] }))) .number ≡ cat
+    go true b d f g h = sym (f refl)
+    go false true d f g h = sym (g refl)
+    go false false true f g h = sym (h refl)
+    go false false false f g h = refl
+
+-- A block that fits its length is read back, whatever stands behind it.
+pub block-put : (cat : ℕ) (rs : List Rec) → known cat ≡ true → allGood (category cat) rs ≡ true
+    → 0 < length (putRecs (category cat) rs) → 3 + length (putRecs (category cat) rs) < 65536
+    → (t : List ℕ) → blockOf (putBlock cat rs ++ t) ≡ all cat rs
+unfolding blockOf putBlock
+block-put cat rs k g some fit t =
+    let body = putRecs (category cat) rs in
+    let len = 3 + length body in
+    let head = cat ∷ octets 2 len in
+    let s = (head ++ body) ++ t in
+    let three : length head ≡ 3 = ap suc (length-octets 2 len) in
+    let long : length (head ++ body) ≡ len = rw (length-append, three) in
+    let is-len : number 2 s 1 ≡ len = rw (append-assoc head body t) (number-octets 2 len (cat ∷ []) (body ++ t) fit) in
+    let is-body : window s len 3 ≡ body = rw (take-at (head ++ body) t len long, drop-at head body 3 three) in
+    let enough : len ≤ length s = rw (length-append, long) (omega arith) in
+    rw (
+      is-len,
+      le-ltb (length s) 3 (omega arith),
+      k,
+      le-ltb len 4 (omega arith),
+      le-ltb (length s) len enough,
+      is-body,
+      records-put len (category cat) len rs g (omega arith),
+      category-number cat,
+    )
+
+module _ (P : ℕ → List Rec → Type 0) (n at : ℕ) (m : Block) where
+  unless : (b : Bool) → (b ≡ false → OfAll P m) → OfAll P (pick b (wrong n at) m)
+  unless true f = tt
+  unless false f = f refl
+
+  provided : (b : Bool) → (b ≡ true → OfAll P m) → OfAll P (pick b m (wrong n at))
+  provided true f = f refl
+  provided false f = tt
+
+weaker : {P Q : ℕ → List Rec → Type 0} → ((cat : ℕ) (rs : List Rec) → P cat rs → Q cat rs)
+    → (b : Block) → OfAll P b → OfAll Q b
+weaker f (wrong n at) h = tt
+weaker f (all cat rs) h = f cat rs h
+
+Octets-take : (n : ℕ) (s : List ℕ) → Octets s → Octets (take n s)
+Octets-take n s o i = go (ltb i n) refl
+  where
+    go : (b : Bool) → ltb i n ≡ b → getD (take n s) i 0 < 256
+    go true e = let h : i < n = ltb-true i n e in rw (getD-take n s i 0 h) (o i)
+    go false e =
+        let h : length (take n s) ≤ i = rw length-take (omega (arith, ltb-false i n e)) in
+        rw (List·getD-eq-default (take n s) 0 h) (omega arith)
+
+-- what an accepted block is
+pub record Sound (s : List ℕ) (cat : ℕ) (rs : List Rec) : Type 0 where
+  pub known : known cat ≡ true
+  pub fine : allGood (category cat) rs ≡ true
+  pub some : 0 < length (putRecs (category cat) rs)
+  pub short : 3 + length (putRecs (category cat) rs) ≤ number 2 s 1
+
+pub block-sound : (s : List ℕ) → Octets s → OfAll (Sound s) (blockOf s)
+unfolding blockOf
+block-sound s o =
+    let cat = getD s 0 0 in
+    let len = number 2 s 1 in
+    let c = category cat in
+    unless (Sound s) _ _ _ (ltb (length s) 3) λ e1.
+    provided (Sound s) _ _ _ (known cat) λ e2.
+    unless (Sound s) _ _ _ (ltb len 4) λ e3.
+    unless (Sound s) _ _ _ (ltb (length s) len) λ e4.
+    let four = ltb-false len 4 e3 in
+    let long = window-long s len (ltb-false (length s) len e4) 3 in
+    weaker
+    (λ cat' rs w. subst (λ x. Sound s x rs) (sym (w .same ∙ category-number cat)) record {
+      known = e2;
+      fine = w .fine;
+      some = w .some (omega arith);
+      short = omega (arith, w .short);
+    })
+    (records len len c (window s len 3))
+    (records-filled len len c (window s len 3) (Octets-drop 3 (take len s) (Octets-take len s o)))
+
+-- A block in normal form: accepted, the same category and the same records, whatever stands behind it.
+pub block-normal : (s : List ℕ) (cat : ℕ) (rs : List Rec) → Octets s → blockOf s ≡ all cat rs
+    → (t : List ℕ) → blockOf (putBlock cat rs ++ t) ≡ all cat rs
+block-normal s cat rs o h =
+    let w = subst (OfAll (Sound s)) h (block-sound s o) in
+    block-put cat rs (w .known) (w .fine) (w .some) (omega (arith, w .short, number-lt 2 s 1 o))
+
+-- Rewriting again changes nothing: the records of a block in normal form give the same octets.
+pub block-again : (s : List ℕ) (cat cat' : ℕ) (rs rs' : List Rec) → Octets s → blockOf s ≡ all cat rs
+    → blockOf (putBlock cat rs) ≡ all cat' rs' → putBlock cat' rs' ≡ putBlock cat rs
+block-again s cat cat' rs rs' o h h' =
+    let again : blockOf (putBlock cat rs) ≡ all cat rs = rw append-nil at (block-normal s cat rs o h []) in
+    let e : cat' ≡ cat = cc in
+    let f : rs' ≡ rs = cc in
+    rw (e, f)

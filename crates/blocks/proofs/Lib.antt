@@ -1,0 +1,12 @@
+pub mod RecordLaws
+pub mod RecordTheorems
+pub mod BlockLaws
+pub mod WindowLaws
+pub mod BeforeLaws
+pub mod AlikeLaws
+pub mod MarksLaws
+pub mod PresenceLaws
+pub mod WalkSteps
+pub mod ReadSteps
+pub mod RecordStarts
+pub mod Examples

@@ -1,0 +1,217 @@
+-- Marks as a number and marks as seven to a number are the same marks. Assumes nothing.
+use mathlib.Core.Path.{_≡_, refl, ap, subst}
+use mathlib.Core.Bool.{Bool, true, false}
+use mathlib.Core.List.{List, [], _∷_, _++_}
+use Prim.Native.Nat.{ℕ, zero, suc, _+_, _-_, _*_, _/_, _%_, _^_, _≤_, _<_}
+use native.Mathlib.Nat.{zero-mul, zero-add, suc-add, add-zero, mod-eq-of-lt, div-one, div-div-eq-div-mul, pow-succ', div-lt-iff-lt-mul}
+use native.Mathlib.Omega.{arith}
+use lib.Dec.{leb, eqb, lit<, eqb·suc-zero}
+use lib.ListN.{length, getD, replicate, length-replicate}
+use borrow.Author.Tests.{leb-false, eqb-true, eqb-false, eq-eqb, ne-eqb}
+use Rattle.octets.specs.Choice.{pick, odd}
+use Rattle.octets.specs.Numbers.{Octets}
+use Rattle.octets.specs.Refusals.{longSpecification}
+use Rattle.layouts.specs.Formats.{Answer, refused, got, andThen}
+use Rattle.layouts.specs.Ends.{endOf, chainEnd}
+use Rattle.layouts.specs.declared.form.Form.{Form}
+use Rattle.layouts.proofs.Answers.{OfGot, choose, of-pick}
+use Rattle.layouts.proofs.KindEnds.{none-left, end-then}
+use Rattle.blocks.specs.Specification.{zeros, flags}
+use Rattle.blocks.specs.Presence.{Row, meets}
+use Rattle.blocks.specs.Marks.{marksOf, flagsOf, groupsOf}
+use Rattle.blocks.specs.Records.{formats, marksSpare}
+use Rattle.blocks.specs.Offsets.{specsAt}
+
+-- a mark as a number is the low bit that it tests
+bit : (x : ℕ) → pick (odd x) 1 0 ≡ x % 2
+bit x =
+    choose (λ (n : ℕ). n ≡ x % 2) (odd x)
+    (λ e. omega (arith, eqb-true (x % 2) 1 e))
+    (λ e. let d = eqb-false (x % 2) 1 e in omega arith)
+
+pub flags-long : (gs : List ℕ) → length (flags gs) ≡ 7 * length gs
+unfolding flags
+flags-long [] = refl
+flags-long (g ∷ gs) = omega (arith, flags-long gs)
+
+-- the number 0 marks nothing
+pub no-flags : (n : ℕ) → flagsOf n 0 ≡ replicate n false
+unfolding flagsOf
+no-flags zero = refl
+no-flags (suc n) = ap (λ (bs : List Bool). false ∷ bs) (no-flags n)
+
+-- a field's mark is a bit of the number
+pub flags-at : (n m i : ℕ) → i < n → getD (flagsOf n m) i false ≡ odd (m / 2 ^ i)
+unfolding flagsOf
+flags-at zero m i h = absurd (omega arith)
+flags-at (suc n) m zero h = rw div-one
+flags-at (suc n) m (suc i) h = rw (flags-at n (m / 2) i (omega arith), div-div-eq-div-mul, pow-succ')
+
+-- a mark in front: it is the low bit, and the others are the half
+first-mark : (b : Bool) (m : ℕ) → (odd (pick b 1 0 + m * 2) ≡ b) × ((pick b 1 0 + m * 2) / 2 ≡ m)
+first-mark true m = (eq-eqb ((1 + m * 2) % 2) 1 (omega arith), omega arith)
+first-mark false m = (ne-eqb ((0 + m * 2) % 2) 1 (λ e. omega arith), omega arith)
+
+-- marks as a number and back
+flags-marks : (bs : List Bool) (n : ℕ) → flagsOf (length bs + n) (marksOf bs) ≡ bs ++ replicate n false
+unfolding marksOf flagsOf
+flags-marks [] n = rw zero-add (no-flags n)
+flags-marks (b ∷ bs) n =
+    let f = first-mark b (marksOf bs) in
+    rw (suc-add (length bs) n, f .0, f .1, flags-marks bs n)
+
+-- the marks of at most four octets, as a number and back
+pub flags-28 : (gs : List ℕ) → length gs ≤ 4 → flagsOf 28 (marksOf (flags gs)) ≡ flags gs ++ replicate (28 - 7 * length gs) false
+flags-28 gs h =
+    let all : length (flags gs) + (28 - 7 * length gs) ≡ 28 = omega (arith, flags-long gs) in
+    rw all at (flags-marks (flags gs) (28 - 7 * length gs))
+
+-- fields that are not marked behind the last change nothing
+pub formats-more : (bs : List Bool) (n : ℕ) (fs : List Form) → length fs ≤ length bs → formats (bs ++ replicate n false) fs ≡ formats bs fs
+unfolding formats
+formats-more [] zero fs h = refl
+formats-more [] (suc n) [] h = refl
+formats-more [] (suc n) (f ∷ fs) h = absurd (omega arith)
+formats-more (b ∷ bs) n [] h = refl
+formats-more (b ∷ bs) n (f ∷ fs) h = rw (formats-more bs n fs (omega arith))
+
+pub spare-more : (bs : List Bool) (n : ℕ) (fs : List Form) → marksSpare (bs ++ replicate n false) fs ≡ marksSpare bs fs
+unfolding marksSpare
+spare-more [] zero fs = refl
+spare-more [] (suc n) [] = spare-more [] n []
+spare-more [] (suc n) (f ∷ fs) = spare-more [] n fs
+spare-more (b ∷ bs) n [] = rw (spare-more bs n [])
+spare-more (b ∷ bs) n (f ∷ fs) = rw (spare-more bs n fs)
+
+mark-more : (bs : List Bool) (n i : ℕ) → getD (bs ++ replicate n false) i false ≡ getD bs i false
+mark-more [] zero i = refl
+mark-more [] (suc n) zero = refl
+mark-more [] (suc n) (suc i) = mark-more [] n i
+mark-more (b ∷ bs) n zero = refl
+mark-more (b ∷ bs) n (suc i) = mark-more bs n i
+
+pub meets-more : (rs : List Row) (t : ℕ) (bs : List Bool) (n : ℕ) → meets rs t (bs ++ replicate n false) ≡ meets rs t bs
+unfolding meets
+meets-more [] t bs n = refl
+meets-more (r ∷ rs) t bs n = rw (mark-more bs n (r .field - 1), meets-more rs t bs n)
+
+-- seven marks as a number
+pub marks-one : (g : ℕ) → marksOf (flags (g ∷ []))
+    ≡ g / 64 % 2 + g / 32 % 2 * 2 + g / 16 % 2 * 4 + g / 8 % 2 * 8 + g / 4 % 2 * 16 + g / 2 % 2 * 32 + g % 2 * 64
+unfolding marksOf flags
+marks-one g = rw (bit (g / 64), bit (g / 32), bit (g / 16), bit (g / 8), bit (g / 4), bit (g / 2), bit g) (omega arith)
+
+-- and those behind them
+pub marks-cons : (g : ℕ) (gs : List ℕ) → marksOf (flags (g ∷ gs)) ≡ marksOf (flags gs) * 128 + marksOf (flags (g ∷ []))
+unfolding marksOf flags
+marks-cons g gs = omega arith
+
+-- octets that mark nothing
+marks-none : (n : ℕ) → marksOf (flags (replicate n 0)) ≡ 0
+unfolding marksOf flags
+marks-none zero = refl
+marks-none (suc n) = rw (marks-none n)
+
+zeros-none : (n : ℕ) → zeros (replicate n 0) ≡ true
+unfolding zeros
+zeros-none zero = refl
+zeros-none (suc n) = zeros-none n
+
+-- a bit that is 0 halves the bound
+halve : (k : ℕ) {x : ℕ} → 0 < k → x < 2 * k → x / k % 2 ≡ 0 → x < 1 * k
+halve k p l e = div-lt-iff-lt-mul p .0 (omega (arith, div-lt-iff-lt-mul p .1 l))
+
+-- seven marks whose number is 0 are none
+no-mark : (g : ℕ) → g < 128 → marksOf (flags (g ∷ [])) ≡ 0 → g ≡ 0
+no-mark g l e =
+    let z = marks-one g in
+    let a = halve 64 (lit< tt) l (omega arith) in
+    let b = halve 32 (lit< tt) a (omega arith) in
+    let c = halve 16 (lit< tt) b (omega arith) in
+    let d = halve 8 (lit< tt) c (omega arith) in
+    let f = halve 4 (lit< tt) d (omega arith) in
+    let h = halve 2 (lit< tt) f (omega arith) in
+    omega (arith, mod-eq-of-lt h)
+
+-- the number is 0 exactly where nothing is marked
+none-cons : (g : ℕ) (gs : List ℕ) → g < 128 → eqb (marksOf (flags gs)) 0 ≡ zeros gs → eqb (marksOf (flags (g ∷ gs))) 0 ≡ zeros (g ∷ gs)
+unfolding zeros
+none-cons zero gs l h = rw (marks-cons 0 gs, marks-one 0, ← h) (go (marksOf (flags gs)))
+  where
+    go : (m : ℕ) → eqb (m * 128 + 0) 0 ≡ eqb m 0
+    go zero = refl
+    go (suc m) = rw (eqb·suc-zero m) (ne-eqb (suc m * 128 + 0) 0 (λ e. omega arith))
+none-cons (suc g) gs l h =
+    rw (eqb·suc-zero g)
+    (ne-eqb (marksOf (flags (suc g ∷ gs))) 0 (λ e. omega (arith, no-mark (suc g) l (omega (arith, marks-cons (suc g) gs)))))
+
+-- what reading a specification says of its marks
+pub record Marked (s : List ℕ) (len n at : ℕ) (gs : List ℕ) (q : ℕ) : Type 0 where
+  pub long : length gs ≡ suc n
+  pub same : marksOf (flags gs) ≡ marksOf (flags (groupsOf (q - at) s at))
+  pub none : eqb (marksOf (flags gs)) 0 ≡ zeros gs
+  pub forward : at < q
+  pub few : q ≤ at + suc n
+  pub within : q ≤ len
+
+module _ (s : List ℕ) (len : ℕ) (o : Octets s) where
+  -- the last octet
+  marked-last : (n at : ℕ) → leb len at ≡ false → Marked s len n at (getD s at 0 / 2 ∷ replicate n 0) (at + 1)
+  unfolding groupsOf
+  marked-last n at e =
+      let g = getD s at 0 / 2 in
+      let one : at + 1 - at ≡ 1 = omega arith in
+      let inside : at < len = leb-false len at e in
+      record {
+        long = ap suc (length-replicate n 0);
+        same = rw (one, marks-cons g (replicate n 0), marks-none n, zero-mul, zero-add);
+        none = none-cons g (replicate n 0) (omega (arith, o at)) (rw (marks-none n, zeros-none n));
+        forward = omega arith;
+        few = omega arith;
+        within = omega arith;
+      }
+
+  -- an octet before others
+  marked-then : (n at : ℕ) (m : Answer ℕ (List ℕ)) → OfGot (Marked s len n (at + 1)) m
+      → OfGot (Marked s len (suc n) at) (andThen m (λ gs q. got (getD s at 0 / 2 ∷ gs) q))
+  unfolding groupsOf
+  marked-then n at (refused k) m = tt
+  marked-then n at (got gs q) m =
+      let g = getD s at 0 / 2 in
+      let one : q - at ≡ suc (q - (at + 1)) = omega arith in
+      record {
+        long = ap suc (m .long);
+        same = rw (one, marks-cons g gs, m .same, ← marks-cons g (groupsOf (q - (at + 1)) s (at + 1)));
+        none = none-cons g gs (omega (arith, o at)) (m .none);
+        forward = omega arith;
+        few = omega arith;
+        within = m .within;
+      }
+
+  marked : (n at : ℕ) → OfGot (Marked s len n at) (specsAt s len n at)
+  unfolding specsAt
+  marked zero at =
+      choose (OfGot (Marked s len 0 at)) (leb len at) (λ e. tt)
+      (λ e. choose (OfGot (Marked s len 0 at)) (odd (getD s at 0)) (λ f. tt) (λ f. marked-last 0 at e))
+  marked (suc n) at =
+      choose (OfGot (Marked s len (suc n) at)) (leb len at) (λ e. tt)
+      (λ e. choose (OfGot (Marked s len (suc n) at)) (odd (getD s at 0))
+      (λ f. marked-then n at (specsAt s len n (at + 1)) (marked n (at + 1)))
+      (λ f. marked-last (suc n) at e))
+
+pub specs-marked : (s : List ℕ) (len n at : ℕ) (gs : List ℕ) (q : ℕ) → Octets s → specsAt s len n at ≡ got gs q → Marked s len n at gs q
+specs-marked s len n at gs q o h = subst (OfGot (Marked s len n at)) h (marked s len o n at)
+
+-- where a specification ends is where its chain of octets ends
+pub spec-end : (s : List ℕ) (len n at : ℕ) → endOf (specsAt s len n at) ≡ chainEnd s len longSpecification 1 n at
+unfolding specsAt chainEnd
+spec-end s len zero at = rw (none-left, add-zero, of-pick endOf (leb len at), of-pick endOf (odd (getD s at 0)))
+spec-end s len (suc n) at =
+    rw (
+      none-left,
+      add-zero,
+      of-pick endOf (leb len at),
+      of-pick endOf (odd (getD s at 0)),
+      end-then (λ (gs : List ℕ). getD s at 0 / 2 ∷ gs),
+      spec-end s len n (at + 1),
+    )

@@ -1,0 +1,49 @@
+-- A record has the items that it must have: its category's mandatory ones, and of category 65 those that its type tells. Assumes nothing.
+use mathlib.Core.Path.{_≡_, refl}
+use mathlib.Core.Bool.{Bool, true, false, _&&_, and-false}
+use mathlib.Core.List.{[], _∷_}
+use Prim.Native.Nat.{ℕ, _/_}
+use lib.Dec.{eqb}
+use lib.ListN.{getD}
+use borrow.Author.Tests.{ne-eqb}
+use Rattle.octets.specs.Choice.{pick, odd}
+use Rattle.layouts.specs.Categories.{cat23, cat242, category, marksOf}
+use Rattle.blocks.specs.Presence.{Need, M, X, row, rowsByType, rows23, rows242, rowsOf, met, meets}
+use Rattle.blocks.specs.Marks.{flagsOf, hasAll}
+
+-- a need that is the same in every type
+any-type : (a b : Bool) (n : Need) → pick a n (pick b n n) ≡ n
+any-type true b n = refl
+any-type false true n = refl
+any-type false false n = refl
+
+-- the rows' order, and the mandatory ones first
+reorder : (a b c d x y : Bool) → (b && (a && (c && (x && (d && y))))) ≡ ((a && (b && (c && (d && true)))) && (x && y))
+reorder true true true true x y = refl
+reorder true true true false x y = and-false x
+reorder true true false d x y = refl
+reorder true false c d x y = refl
+reorder false b c d x y = and-false b
+
+module _ (t m : ℕ) where
+  -- category 65: its mandatory items, and those of the type
+  pub rows-65 : (n : ℕ) → n ≡ 65
+      → meets (rowsOf n) t (flagsOf 28 m) ≡ (hasAll 32 (marksOf (category n .mandatory)) m && meets rowsByType t (flagsOf 28 m))
+  unfolding meets flagsOf hasAll
+  rows-65 n e =
+      let bs = flagsOf 28 m in
+      rw (e, any-type (eqb t 1) (eqb t 2) M)
+      (reorder (odd m) (odd (m / 2)) (odd (m / 2 / 2)) (odd (m / 2 / 2 / 2)) (met (row 5 X M X .need t) (getD bs 4 false))
+      (meets (row 6 M X X ∷ row 7 X X M ∷ []) t bs))
+
+  other : (n : ℕ) (a b : Bool)
+      → meets (pick a rows23 (pick b rows242 [])) t (flagsOf 28 m)
+      ≡ hasAll 32 (marksOf (pick a cat23 (pick b cat242 (record { number = n; most = 0; fields = []; mandatory = [] })) .mandatory)) m
+  unfolding meets flagsOf hasAll
+  other n true b = refl
+  other n false true = refl
+  other n false false = refl
+
+  -- the others: their mandatory items
+  pub rows-other : (n : ℕ) → (n ≡ 65 → ⊥) → meets (rowsOf n) t (flagsOf 28 m) ≡ hasAll 32 (marksOf (category n .mandatory)) m
+  rows-other n h = rw (ne-eqb n 65 h) (other n (eqb n 23) (eqb n 242))

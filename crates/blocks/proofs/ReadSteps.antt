@@ -1,0 +1,161 @@
+-- Runs of records one after the other, and the tests before them: what the definitions say of the case that a branch of the code is
+-- in. Assumes nothing.
+use mathlib.Core.Path.{_≡_, refl, sym, _∙_, subst}
+use mathlib.Core.Bool.{Bool, true, false}
+use mathlib.Core.List.{List, [], _∷_}
+use Prim.Native.Nat.{ℕ, zero, suc, _+_, _-_, _≤_, _<_}
+use native.Mathlib.Nat.{zero-add, add-zero, sub-zero}
+use native.Mathlib.Omega.{arith}
+use borrow.Author.Tests.{lt-ltb, le-ltb, leb-true, leb-false, lt-leb, le-leb}
+use lib.Dec.{leb, eqb}
+use lib.ListN.{length, getD}
+use Rattle.octets.specs.Numbers.{Octets, number}
+use Rattle.octets.specs.Refusals.{tooShort, unknownCategory, lenTooSmall, presenceBroken}
+use Rattle.layouts.specs.Formats.{Answer, refused, got, Format, Trace}
+use Rattle.layouts.specs.Offsets.{itemAt}
+use Rattle.layouts.specs.Categories.{Category, known, category}
+use Rattle.layouts.proofs.Answers.{pick-yes, through}
+use Rattle.layouts.proofs.Windows.{run-within}
+use Rattle.blocks.specs.Records.{Rec, layoutOf, marksRefusal, present}
+use Rattle.blocks.specs.Blocks.{Block, wrong, all, with}
+use Rattle.blocks.specs.Offsets.{specsAt, itemsAt, recordAt, firstAt, recordsAt}
+use Rattle.blocks.specs.Walks.{onward, runOf, answerOf, readOf}
+use Rattle.blocks.specs.declared.walk.Walked.{Walked}
+use Rattle.blocks.specs.declared.walk.Walked.the-variants as walked
+use Rattle.blocks.specs.declared.walk.Reading.{Reading}
+use Rattle.blocks.specs.declared.walk.Reading.the-variants as reading
+use Rattle.blocks.proofs.MarksLaws.{specs-marked}
+use Rattle.blocks.proofs.WalkSteps.{item-run, run-none, run-one, run-end}
+
+-- an answer with so many records more
+abbrev counted : ℕ → Reading → Reading
+counted k (reading.Accepted len n) = Reading.Accepted len (k + n)
+counted k (reading.Refused n at) = Reading.Refused n at
+
+counted-none : (r : Reading) → r ≡ counted 0 r
+counted-none (reading.Accepted len n) = rw zero-add
+counted-none (reading.Refused n at) = refl
+
+counted-one : (len count : ℕ) (r : Rec) (b : Block) → counted count (answerOf len (with r b)) ≡ counted (count + 1) (answerOf len b)
+counted-one len count r (wrong n at) = refl
+counted-one len count r (all cat rs) =
+    let e : count + suc (length rs) ≡ count + 1 + length rs = omega arith in
+    rw e
+
+module _ (s : List ℕ) (len : ℕ) (c : Category) where
+  items-within : (fs : List Format) (at q : ℕ) (trs : List Trace) → at ≤ len → itemsAt s len fs at ≡ got trs q → (at ≤ q) × (q ≤ len)
+  unfolding itemsAt
+  items-within [] at q trs l h = let e : at ≡ q = cc in (omega arith, omega arith)
+  items-within (f ∷ fs) at q trs l h =
+      let (tr, p, e, h') = through (itemAt s len f at) h in
+      let (trs', q', e', last) = through (itemsAt s len fs p) h' in
+      let same : q' ≡ q = cc in
+      let (a, b) = run-within s len f at tr p l (item-run s len f at p tr e) in
+      let (a', b') = items-within fs p q' trs' b e' in
+      (omega arith, omega arith)
+
+  -- a record has an octet at least, and lies within the block
+  record-within : Octets s → (at q : ℕ) (r : Rec) → recordAt s len c at ≡ got r q → (at < q) × (q ≤ len)
+  unfolding recordAt
+  record-within o at q r h =
+      let (gs, p, e, h') = through (specsAt s len (c .most - 1) at) h in
+      let w = specs-marked s len (c .most - 1) at gs p o e in
+      let (z, h'') = pick-yes (eqb (marksRefusal c gs) 0) _ _ h' in
+      let (trs, q', e', last) = through (itemsAt s len (layoutOf c gs) p) h'' in
+      let (y, end) = pick-yes (present c gs trs) presenceBroken (got (record { marks = gs; items = trs }) q') last in
+      let same : q' ≡ q = cc in
+      let (a, b) = items-within (layoutOf c gs) p q' trs (w .within) e' in
+      (omega arith, omega arith)
+
+  records-end : (m at : ℕ) → len ≤ at → recordsAt s len c m at ≡ all (c .number) []
+  unfolding recordsAt
+  records-end zero at h = rw (le-leb len at h)
+  records-end (suc m) at h = rw (le-leb len at h)
+
+  records-one : (m k at : ℕ) → m ≡ suc k → at < len
+      → recordsAt s len c m at ≡ firstAt s len at (recordAt s len c at) (λ q. recordsAt s len c k q)
+  unfolding recordsAt
+  records-one m k at e h = rw (e, lt-leb len at h)
+
+  abbrev whole : Reading
+  whole = answerOf len (recordsAt s len c len 3)
+
+  -- so many records lie before an offset: what the block answers then
+  pub record Passed (at count : ℕ) : Type 0 where
+    pub within : at ≤ len
+    pub few : count ≤ at
+    pub same : whole ≡ counted count (answerOf len (recordsAt s len c (len - count) at))
+
+  pub passed-none : 3 ≤ len → Passed 3 0
+  passed-none h = record { within = h; few = omega arith; same = rw sub-zero (counted-none whole) }
+
+  pub passed-all : (at count : ℕ) → Passed at count → len ≤ at → Reading.Accepted len count ≡ whole
+  passed-all at count w h = sym (w .same ∙ rw (records-end (len - count) at h, add-zero))
+
+  -- what a run that goes to p at least says of the block
+  abbrev pub Follows : ℕ → Walked → Type 0
+  Follows p (walked.To q n) = (p ≤ q) × Passed q n
+  Follows p (walked.Refused n at) = Reading.Refused n at ≡ whole
+
+  module _ (o : Octets s) where
+    run-next : (p b at count : ℕ) → Passed at count → at < len
+        → ((q : ℕ) → at < q → Passed q (count + 1) → Follows p (runOf s len c b q (count + 1)))
+        → (a : Answer ℕ Rec) → recordAt s len c at ≡ a → Follows p (onward s len c at a (λ q. runOf s len c b q (count + 1)))
+    run-next p b at count w more k (refused m) e =
+        sym (w .same ∙ rw (records-one (len - count) (len - (count + 1)) at (omega arith) more, e))
+    run-next p b at count w more k (got r q) e =
+        let (a, l) = record-within o at q r e in
+        let left = len - (count + 1) in
+        k q a (record {
+          within = l;
+          few = omega arith;
+          same = w .same ∙ rw (records-one (len - count) left at (omega arith) more, e) (counted-one len count r (recordsAt s len c left q));
+        })
+
+    run-follows : (b p at count : ℕ) → p ≤ at → Passed at count → Follows p (runOf s len c b at count)
+    run-follows zero p at count l w = subst (Follows p) (run-none s len c at 0 count refl) (l, w)
+    run-follows (suc b) p at count l w = go (leb len at) refl (λ q f v. run-follows b p q (count + 1) (omega arith) v)
+      where
+        go : (t : Bool) → leb len at ≡ t → ((q : ℕ) → at < q → Passed q (count + 1) → Follows p (runOf s len c b q (count + 1)))
+            → Follows p (runOf s len c (suc b) at count)
+        go true e k = subst (Follows p) (run-end s len c at (suc b) count (leb-true len at e)) (l, w)
+        go false e k =
+            let more = leb-false len at e in
+            subst (Follows p) (run-one s len c at (suc b) count b refl more) (run-next p b at count w more k (recordAt s len c at) refl)
+
+    -- a run of one record at least goes forward
+    pub run-more : (budget at count : ℕ) → 1 ≤ budget → at < len → Passed at count
+        → (r : Walked) → r ≡ runOf s len c budget at count → Follows (at + 1) r
+    run-more budget at count some more w r e =
+        let b = budget - 1 in
+        subst (Follows (at + 1)) (run-one s len c at budget count b (omega arith) more ∙ sym e)
+        (run-next (at + 1) b at count w more (λ q f v. run-follows b (at + 1) q (count + 1) (omega arith) v) (recordAt s len c at) refl)
+
+-- A block, test after test
+module _ (s : List ℕ) where
+  pub read-short : length s < 3 → Reading.Refused tooShort 0 ≡ readOf s
+  unfolding readOf
+  read-short h = rw (lt-ltb (length s) 3 h)
+
+  module _ (long : 3 ≤ length s) where
+    abbrev cat : ℕ
+    cat = getD s 0 0
+
+    pub read-unknown : known cat ≡ false → Reading.Refused unknownCategory 0 ≡ readOf s
+    unfolding readOf
+    read-unknown h = rw (le-ltb (length s) 3 long, h)
+
+    module _ (k : known cat ≡ true) (len : ℕ) (is : len ≡ number 2 s 1) where
+      pub read-low : len < 4 → Reading.Refused lenTooSmall 0 ≡ readOf s
+      unfolding readOf
+      read-low h = rw (le-ltb (length s) 3 long, k, ← is, lt-ltb len 4 h)
+
+      module _ (least : 4 ≤ len) where
+        pub read-cut : length s < len → Reading.Refused tooShort 0 ≡ readOf s
+        unfolding readOf
+        read-cut h = rw (le-ltb (length s) 3 long, k, ← is, le-ltb len 4 least, lt-ltb (length s) len h)
+
+        pub read-body : len ≤ length s
+            → (r : Reading) → r ≡ answerOf len (recordsAt s len (category cat) len 3) → r ≡ readOf s
+        unfolding readOf
+        read-body h r e = e ∙ rw (le-ltb (length s) 3 long, k, ← is, le-ltb len 4 least, le-ltb (length s) len h)

@@ -1,0 +1,85 @@
+-- The theorems on one record: it is read back as written, has one normal form, and its spare bits change nothing.
+-- Assumes nothing.
+use mathlib.Core.Path.{_≡_, refl, ap, subst}
+use mathlib.Core.Bool.{true}
+use mathlib.Core.List.{List, [], _∷_, _++_, append-assoc}
+use Prim.Native.Nat.{ℕ, suc, _+_, _-_, _≤_}
+use native.Mathlib.Omega.{arith}
+use lib.Dec.{eqb}
+use lib.ListN.{length, getD, drop, length-append}
+use borrow.Author.Tests.{eqb-true}
+use Rattle.octets.specs.Numbers.{Octets}
+use Rattle.layouts.specs.Formats.{got, Format, Trace}
+use Rattle.layouts.specs.Categories.{Category}
+use Rattle.layouts.proofs.Answers.{both, through, OfGot}
+use Rattle.layouts.proofs.Formats.{put-length}
+use Rattle.blocks.specs.Specification.{putMarks}
+use Rattle.blocks.specs.Records.{Rec, layoutOf, putItems, recordOf, good, putRec, rewritten}
+use Rattle.blocks.proofs.RecordLaws.{Octets-tail, specs-put, record-any, record-held}
+
+pub good-long : (c : Category) (r : Rec) → good c r ≡ true → length (r .marks) ≡ suc (c .most - 1)
+unfolding good
+good-long c r h =
+    let n = length (r .marks) in
+    eqb-true n (suc (c .most - 1)) (both (eqb n (suc (c .most - 1))) _ h .0)
+
+-- Reading back what was written: accepted, one record, the same.
+pub read-back : (c : Category) (r : Rec) → good c r ≡ true → (t : List ℕ) → recordOf c (putRec c r ++ t) ≡ got r t
+unfolding putRec
+read-back c r h t =
+    rw (append-assoc (putMarks (r .marks)) (putItems (layoutOf c (r .marks)) (r .items) []) t)
+    (record-any c r (putMarks (r .marks)) (λ q. specs-put (c .most - 1) (r .marks) q (good-long c r h)) h [] t)
+
+-- Normal form: what is accepted, rewritten, is accepted with the same values, whatever stands behind it.
+pub normal-same : (c : Category) (s : List ℕ) (r : Rec) (t : List ℕ) → Octets s → recordOf c s ≡ got r t
+    → (q : List ℕ) → recordOf c (putRec c r ++ q) ≡ got r q
+normal-same c s r t o h = read-back c r (record-held c s r t o h .fine)
+
+-- Rewriting again changes nothing.
+pub normal-again : (c : Category) (s n t : List ℕ) → Octets s → rewritten c s ≡ got n t
+    → (q : List ℕ) → rewritten c (n ++ q) ≡ got n q
+unfolding rewritten
+normal-again c s n t o h q =
+    let (r, t', e, last) = through (recordOf c s) h in
+    let again : rewritten c (putRec c r ++ q) ≡ got (putRec c r) q = rw (normal-same c s r t' o e q) in
+    subst (OfGot (λ n t. rewritten c (n ++ q) ≡ got n q)) last again
+
+-- Two records with equal values have the same rewriting.
+pub normal-one : (c : Category) (s s' : List ℕ) (r : Rec) (t t' : List ℕ) → recordOf c s ≡ got r t → recordOf c s' ≡ got r t'
+    → (rewritten c s ≡ got (putRec c r) t) × (rewritten c s' ≡ got (putRec c r) t')
+unfolding rewritten
+normal-one c s s' r t t' h h' = (rw h, rw h')
+
+-- Spare bits: the octets of an accepted record are its specification and its values with some spare bits; with any others
+-- they are the same record.
+pub spare-bits : (c : Category) (s : List ℕ) (r : Rec) (t : List ℕ) → Octets s → recordOf c s ≡ got r t
+    → (spec : List ℕ) × ((xs : List (List ℕ)) × (s ≡ spec ++ (putItems (layoutOf c (r .marks)) (r .items) xs ++ t)))
+    × ((xs : List (List ℕ)) → recordOf c (spec ++ (putItems (layoutOf c (r .marks)) (r .items) xs ++ t)) ≡ got r t)
+spare-bits c s r t o h =
+    let w = record-held c s r t o h in
+    (w .spec, (w .bits, w .is), λ xs. record-any c r (w .spec) (w .reads) (w .fine) xs t)
+
+-- how many octets does not depend on the spare bits
+pub putItems-length : (fs : List Format) (trs : List Trace) (xs ys : List (List ℕ))
+    → length (putItems fs trs xs) ≡ length (putItems fs trs ys)
+unfolding putItems
+putItems-length [] trs xs ys = refl
+putItems-length (f ∷ fs) [] xs ys = refl
+putItems-length (f ∷ fs) (tr ∷ trs) xs ys =
+    simp (length-append, put-length f tr (getD xs 0 []) (getD ys 0 []), putItems-length fs trs (drop 1 xs) (drop 1 ys))
+
+-- Rewriting never lengthens.
+pub normal-short : (c : Category) (s : List ℕ) (r : Rec) (t : List ℕ) → Octets s → recordOf c s ≡ got r t
+    → length (putRec c r) + length t ≤ length s
+unfolding putRec
+normal-short c s r t o h =
+    let w = record-held c s r t o h in
+    let fs = layoutOf c (r .marks) in
+    let l = simp length-append at (ap length (w .is)) in
+    rw length-append (omega (arith, l, putItems-length fs (r .items) (w .bits) [], w .short))
+
+pub rest-octets : (c : Category) (s : List ℕ) (r : Rec) (t : List ℕ) → Octets s → recordOf c s ≡ got r t → Octets t
+rest-octets c s r t o h =
+    let w = record-held c s r t o h in
+    let items = putItems (layoutOf c (r .marks)) (r .items) (w .bits) in
+    Octets-tail items t (items ++ t) refl (Octets-tail (w .spec) (items ++ t) s (w .is) o)

@@ -1,0 +1,12 @@
+-- `is_marked` tests a bit of the number. Assumes nothing.
+use mathlib.Core.Path.{sym}
+use native.Mathlib.Omega.{arith}
+use borrow.Author.Needs.{needs}
+use Rattle.blocks.proofs.MarksLaws.{flags-at}
+use Rattle.blocks.proofs.marks.is_marked.Statement.{statement}
+use Rattle.blocks.proofs.marks.is_marked.Tie as tie
+
+pub is-marked-spec : {M : Type 1} → statement M
+is-marked-spec =
+    tie.close
+    (tie.spec (λ c. search needs) (λ c. search needs) (λ c. search needs) (λ c. sym (flags-at 28 _ _ (omega arith))))

@@ -1,0 +1,20 @@
+-- `is_present` by the categories' rows. Assumes nothing.
+use borrow.Author.Needs.{needs}
+use Rattle.blocks.proofs.PresenceLaws.{rows-65, rows-other}
+use Rattle.blocks.proofs.presence.is_present.Statement.{statement}
+use Rattle.blocks.proofs.presence.is_present.Tie as tie
+
+returns : tie.Need-returns
+returns c =
+    let a = c .before .before .before .before .args in
+    cc (rows-65 (a .kind) (a .marks) (a .number) (c .before .if1 .taken))
+
+returns-2 : tie.Need-returns-2
+returns-2 c =
+    let a = c .before .before .before .args in
+    cc (rows-other (a .kind) (a .marks) (a .number) (c .if1 .left))
+
+pub is-present-spec : {M : Type 1} → statement M
+is-present-spec =
+    tie.close
+    (tie.spec (λ c κs. search needs) (λ c κs. search needs) (λ c κs. search needs) returns returns-2)

@@ -1,0 +1,32 @@
+-- Octets of a record that differ only in the spare bits of its items.
+use mathlib.Core.Path.{_≡_}
+use mathlib.Core.List.{List, [], _∷_}
+use Prim.Native.Nat.{ℕ, _-_}
+use Rattle.layouts.specs.Formats.{Answer, refused, got, Format}
+use Rattle.layouts.specs.Alike.{Alike, AlikeAt}
+use Rattle.layouts.specs.Offsets.{itemAt}
+use Rattle.layouts.specs.Categories.{Category}
+use Rattle.blocks.specs.Records.{layoutOf}
+use Rattle.blocks.specs.Offsets.{specsAt}
+
+-- item by item, and the same octets behind the last
+abbrev pub AllAlike : List Format → List ℕ → List ℕ → Type 0
+AllAlike [] s t = s ≡ t
+AllAlike (f ∷ fs) s t = Alike f (AllAlike fs) s t
+
+-- of what was read, and of the offset behind it; of a refusal nothing
+abbrev pub IfGot : {A : Type 0} → Answer ℕ A → (A → ℕ → Type 0) → Type 0
+IfGot (refused n) P = Unit {0}
+IfGot (got a q) P = P a q
+
+-- by offsets, up to the block's end
+module _ (s t : List ℕ) (len : ℕ) where
+  abbrev pub AllAlikeAt : List Format → ℕ → Type 0
+  AllAlikeAt [] at = Unit {0}
+  AllAlikeAt (f ∷ fs) at = AlikeAt f s t at × IfGot (itemAt s len f at) (λ tr q. AllAlikeAt fs q)
+
+  -- and the specification reads the same
+  abbrev pub RecordAlikeAt : Category → ℕ → Type 0
+  RecordAlikeAt c at =
+      (specsAt s len (c .most - 1) at ≡ specsAt t len (c .most - 1) at)
+      × IfGot (specsAt s len (c .most - 1) at) (λ gs p. AllAlikeAt (layoutOf c gs) p)

@@ -1,0 +1,36 @@
+-- Marks as a number: bit f - 1 for field f, as the typed record has them.
+use mathlib.Core.Bool.{Bool, true, false, _&&_}
+use mathlib.Core.List.{List, [], _∷_}
+use Prim.Native.Nat.{ℕ, zero, suc, _+_, _*_, _/_}
+use lib.ListN.{getD}
+use Rattle.octets.specs.Choice.{pick, odd}
+use Rattle.layouts.specs.declared.ends.Kind.{Kind}
+use Rattle.layouts.specs.declared.ends.Kind.the-variants.{Spare, Fixed, Extended, Repeated, Explicit}
+
+-- the number of marks, field 1 in its low bit
+unfoldable pub marksOf : List Bool → ℕ
+marksOf [] = 0
+marksOf (b ∷ bs) = pick b 1 0 + marksOf bs * 2
+
+-- the marks of n fields in a number
+unfoldable pub flagsOf : ℕ → ℕ → List Bool
+flagsOf zero m = []
+flagsOf (suc n) m = odd m ∷ flagsOf n (m / 2)
+
+-- the marks in n specification octets from an offset, seven to a number
+unfoldable pub groupsOf : ℕ → List ℕ → ℕ → List ℕ
+groupsOf zero s at = []
+groupsOf (suc n) s at = getD s at 0 / 2 ∷ groupsOf n s (at + 1)
+
+-- of n fields, each that the first number marks is marked in the second
+unfoldable pub hasAll : ℕ → ℕ → ℕ → Bool
+hasAll zero m k = true
+hasAll (suc n) m k = pick (odd m) (odd k) true && hasAll n (m / 2) (k / 2)
+
+-- the kind of a spare field
+abbrev pub isSpare : Kind → Bool
+isSpare Spare = true
+isSpare (Fixed size) = false
+isSpare (Extended size more) = false
+isSpare (Repeated size) = false
+isSpare Explicit = false

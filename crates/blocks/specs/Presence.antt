@@ -1,0 +1,71 @@
+-- Which items a record has, by its type (01 "Presence").
+use mathlib.Core.Bool.{Bool, true, false, _&&_, not}
+use mathlib.Core.List.{List, [], _∷_}
+use Prim.Native.Nat.{ℕ, _-_}
+use lib.Dec.{eqb}
+use lib.ListN.{getD}
+use Rattle.octets.specs.Choice.{pick}
+
+-- mandatory, optional, never present (000 §5.2.1)
+pub data Need : Type 0 where
+  M : Need
+  O : Need
+  X : Need
+
+-- a field, and its need by the record's type
+pub record Row : Type 0 where
+  pub field : ℕ
+  pub need : ℕ → Need
+
+-- in the types 001, 002 and 003
+abbrev pub row : ℕ → Need → Need → Need → Row
+row f a b c = record { field = f; need = λ t. pick (eqb t 1) a (pick (eqb t 2) b c) }
+
+-- in every record
+abbrev pub always : ℕ → Need → Row
+always f n = record { field = f; need = λ t. n }
+
+-- the table of 000 §5.2.1, by the fields of 000 §5.3
+abbrev pub rows65 : List Row
+rows65 =
+    row 2 M M M  -- I065/000 Message Type
+    ∷ row 1 M M M  -- I065/010 Data Source Identifier
+    ∷ row 3 M M M  -- I065/015 Service Identification
+    ∷ row 5 X M X  -- I065/020 Batch Number
+    ∷ row 4 M M M  -- I065/030 Time of Message
+    ∷ row 6 M X X  -- I065/040 SDPS configuration and status
+    ∷ row 7 X X M  -- I065/050 Service Status Report
+    ∷ []
+
+-- of these, the items that the types tell apart
+abbrev pub rowsByType : List Row
+rowsByType = row 5 X M X ∷ row 6 M X X ∷ row 7 X X M ∷ []
+
+-- category 23: 000 and 070
+abbrev pub rows23 : List Row
+rows23 =
+    always 2 M  -- I023/000 Report Type
+    ∷ always 4 M  -- I023/070 Time of Day
+    ∷ []
+
+-- category 242: its three items
+abbrev pub rows242 : List Row
+rows242 =
+    always 1 M  -- I242/010 Data Source Identifier
+    ∷ always 2 M  -- I242/140 Time of Day
+    ∷ always 3 M  -- I242/550 Version number(s) of CAT used
+    ∷ []
+
+abbrev pub rowsOf : ℕ → List Row
+rowsOf n = pick (eqb n 23) rows23 (pick (eqb n 65) rows65 (pick (eqb n 242) rows242 []))
+
+-- a field that is marked or not, against its need
+abbrev pub met : Need → Bool → Bool
+met M b = b
+met O b = true
+met X b = not b
+
+-- all rows are met by a record of a type with these marks
+unfoldable pub meets : List Row → ℕ → List Bool → Bool
+meets [] t bs = true
+meets (r ∷ rs) t bs = met (r .need t) (getD bs (r .field - 1) false) && meets rs t bs

@@ -1,0 +1,95 @@
+-- A record: a field specification, and then the marked items in field order.
+use mathlib.Core.Bool.{Bool, true, false, _&&_, _||_}
+use mathlib.Core.List.{List, [], _∷_, _++_}
+use Prim.Native.Nat.{ℕ, suc, _-_}
+use lib.Dec.{eqb}
+use lib.ListN.{length, getD, drop}
+use Rattle.octets.specs.Choice.{pick}
+use Rattle.octets.specs.Refusals.{spareMarked, noneMarked, presenceBroken}
+use Rattle.layouts.specs.Formats.{Answer, refused, got, andThen, Format, done, Trace, item, fitsIn, put}
+use Rattle.layouts.specs.Layouts.{Layout, unused, fixed, extended, repeated, explicit, format}
+use Rattle.layouts.specs.Tables.{layout}
+use Rattle.layouts.specs.Categories.{Category}
+use Rattle.layouts.specs.declared.form.Form.{Form}
+use Rattle.blocks.specs.Specification.{specs, zeros, putMarks, flags}
+use Rattle.blocks.specs.Presence.{rowsOf, meets}
+
+-- the marks, seven to a number, and for each field its values: none where it is not marked
+pub record Rec : Type 0 where
+  pub marks : List ℕ
+  pub items : List Trace
+
+-- a field that is not marked has no octets
+unfoldable pub formats : List Bool → List Form → List Format
+formats [] fs = []
+formats (b ∷ bs) [] = []
+formats (b ∷ bs) (f ∷ fs) = pick b (format (layout f)) done ∷ formats bs fs
+
+abbrev pub isUnused : Layout → Bool
+isUnused unused = true
+isUnused (fixed g) = false
+isUnused (extended g hs) = false
+isUnused (repeated g) = false
+isUnused explicit = false
+
+-- a spare field, or one past the last, is marked
+unfoldable pub marksSpare : List Bool → List Form → Bool
+marksSpare [] fs = false
+marksSpare (b ∷ bs) [] = b || marksSpare bs []
+marksSpare (b ∷ bs) (f ∷ fs) = (b && isUnused (layout f)) || marksSpare bs fs
+
+-- the items of a record with these marks
+unfoldable pub layoutOf : Category → List ℕ → List Format
+layoutOf c gs = formats (flags gs) (c .fields)
+
+-- 6 for no mark, 5 for one of a spare field, else 0
+unfoldable pub marksRefusal : Category → List ℕ → ℕ
+marksRefusal c gs = pick (zeros gs) noneMarked (pick (marksSpare (flags gs) (c .fields)) spareMarked 0)
+
+-- the record's type: the value of item 000, field 2; category 242 has none
+abbrev pub typeOf : Category → List Trace → ℕ
+typeOf c trs = pick (eqb (c .number) 242) 0 (getD (getD (getD trs 1 []) 0 []) 0 0)
+
+unfoldable pub present : Category → List ℕ → List Trace → Bool
+present c gs trs = meets (rowsOf (c .number)) (typeOf c trs) (flags gs)
+
+-- items in field order, each to its end and then its values
+unfoldable pub items : List Format → List ℕ → Answer (List ℕ) (List Trace)
+items [] s = got [] s
+items (f ∷ fs) s = andThen (item f s) (λ tr r. andThen (items fs r) (λ trs q. got (tr ∷ trs) q))
+
+unfoldable pub itemsFit : List Format → List Trace → Bool
+itemsFit [] [] = true
+itemsFit [] (tr ∷ trs) = false
+itemsFit (f ∷ fs) [] = false
+itemsFit (f ∷ fs) (tr ∷ trs) = fitsIn f tr && itemsFit fs trs
+
+unfoldable pub putItems : List Format → List Trace → List (List ℕ) → List ℕ
+putItems [] trs xs = []
+putItems (f ∷ fs) [] xs = []
+putItems (f ∷ fs) (tr ∷ trs) xs = put f tr (getD xs 0 []) ++ putItems fs trs (drop 1 xs)
+
+-- 7 and 4 at each specification octet, 6, 5, the items, 10 (01 "Reading order")
+unfoldable pub recordOf : Category → List ℕ → Answer (List ℕ) Rec
+recordOf c s =
+    andThen (specs (c .most - 1) s)
+    (λ gs r. pick (eqb (marksRefusal c gs) 0)
+    (andThen (items (layoutOf c gs) r)
+    (λ trs q. pick (present c gs trs) (got (record { marks = gs; items = trs }) q) (refused presenceBroken)))
+    (refused (marksRefusal c gs)))
+
+-- what a record must be to be written
+unfoldable pub good : Category → Rec → Bool
+good c r =
+    eqb (length (r .marks)) (suc (c .most - 1))
+    && (eqb (marksRefusal c (r .marks)) 0
+    && (itemsFit (layoutOf c (r .marks)) (r .items)
+    && present c (r .marks) (r .items)))
+
+-- a record in normal form: no last specification octet that marks nothing, spare bits zero
+unfoldable pub putRec : Category → Rec → List ℕ
+putRec c r = putMarks (r .marks) ++ putItems (layoutOf c (r .marks)) (r .items) []
+
+-- a record in normal form, and what stood behind it
+unfoldable pub rewritten : Category → List ℕ → Answer (List ℕ) (List ℕ)
+rewritten c s = andThen (recordOf c s) (λ r t. got (putRec c r) t)

@@ -1,0 +1,5 @@
+// Blocks of records: the header, the specification, and records one after the other.
+pub mod marks;
+pub mod presence;
+pub mod record;
+pub mod walk;

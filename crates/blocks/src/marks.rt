@@ -1,0 +1,100 @@
+// The marks of a record's fields as a number: bit f - 1 for field f.
+ghost use mathlib.Core.Path.{_≡_};
+ghost use mathlib.Core.Bool.{false};
+ghost use mathlib.Core.List.{[], _∷_};
+ghost use Prim.Native.Nat.{_+_, _*_, _-_, _/_, _≤_, _<_};
+ghost use lib.ListN.{length, getD};
+ghost use Rattle.layouts.specs.Categories.{category};
+ghost use Rattle.blocks.specs.Specification.{flags};
+ghost use Rattle.blocks.specs.Marks.{marksOf, flagsOf, groupsOf, isSpare};
+ghost use Rattle.blocks.specs.Records.{marksSpare};
+ghost use Rattle.octets.specs.Choice.{pick};
+ghost use lib.Dec.{eqb};
+ghost use Rattle.octets.specs.Refusals.{spareMarked, noneMarked};
+use layouts::ends::Kind;
+use octets::refusal;
+
+// The marks of one specification octet.
+fn octet_marks(x: u64) -> u32
+    requires { ⌜ x < 256 ⌝ }
+    ensures { λ r. ⌜ (r ≡ marksOf (flags (x / 2 ∷ []))) × (r < 128) ⌝ }
+{
+    (x / 128 % 2
+        + x / 64 % 2 * 2
+        + x / 32 % 2 * 4
+        + x / 16 % 2 * 8
+        + x / 8 % 2 * 16
+        + x / 4 % 2 * 32
+        + x / 2 % 2 * 64) as u32
+}
+
+// The marks in n specification octets from an offset, at most four.
+pub fn marks_at(s: &[u8], at: usize, n: usize) -> u32
+    requires { ⌜ (at + n ≤ length (now s)) × (n ≤ 4) ⌝ }
+    ensures { λ r. ⌜ r ≡ marksOf (flags (groupsOf n (now (s .entry)) at)) ⌝ }
+{
+    let mut m: u32 = 0;
+    let mut i = n;
+    while 0 < i {
+        i -= 1;
+        m = m * 128 + octet_marks(octets::octet(s, at, i));
+    }
+    m
+}
+
+// Whether a field is marked.
+pub fn is_marked(marks: u32, field: usize) -> bool
+    requires { ⌜ (1 ≤ field) × (field ≤ 28) ⌝ }
+    ensures { λ r. ⌜ r ≡ getD (flagsOf 28 marks) (field - 1) false ⌝ }
+{
+    (marks >> (field - 1)) % 2 == 1
+}
+
+// Whether a kind is that of a spare field, or of one past the category's last.
+fn is_spare(kind: Kind) -> bool
+    ensures { λ r. ⌜ r ≡ isSpare kind ⌝ }
+{
+    match kind {
+        Kind::Spare => true,
+        Kind::Fixed(_) => false,
+        Kind::Extended(_, _) => false,
+        Kind::Repeated(_) => false,
+        Kind::Explicit => false,
+    }
+}
+
+// Whether a field is marked that is spare, or past the category's last.
+fn marks_spare(number: u8, marks: u32) -> bool
+    ensures { λ r. ⌜ r ≡ marksSpare (flagsOf 28 marks) (category number .fields) ⌝ }
+{
+    let mut left = marks;
+    let mut f: usize = 0;
+    while f < 28 {
+        if left == 0 {
+            return false;
+        }
+        f += 1;
+        if left % 2 == 1 {
+            let field = layouts::category::field_of(number, f);
+            let kind = field.1;
+            if is_spare(kind) {
+                return true;
+            }
+        }
+        left = left / 2;
+    }
+    false
+}
+
+// 6 for no mark, 5 for one of a spare field or one past the category's last.
+pub fn marks_refusal(number: u8, marks: u32) -> u8
+    ensures { λ r. ⌜ r ≡ pick (eqb marks 0) noneMarked (pick (marksSpare (flagsOf 28 marks) (category number .fields)) spareMarked 0) ⌝ }
+{
+    if marks == 0 {
+        return refusal::NONE_MARKED;
+    }
+    if marks_spare(number, marks) {
+        return refusal::SPARE_MARKED;
+    }
+    refusal::ACCEPTED
+}

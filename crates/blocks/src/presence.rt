@@ -1,0 +1,48 @@
+// Which items a record has, by its type.
+ghost use mathlib.Core.Path.{_≡_};
+ghost use Rattle.blocks.specs.Presence.{rowsOf, rowsByType, meets};
+ghost use Rattle.blocks.specs.Marks.{flagsOf, hasAll};
+use crate::marks::is_marked;
+use layouts::category::Cat65;
+use layouts::category::mandatory_of;
+
+// Every mark of the first is one of the second.
+fn has_all(mandatory: u32, marks: u32) -> bool
+    ensures { λ r. ⌜ r ≡ hasAll 32 mandatory marks ⌝ }
+{
+    let mut m = mandatory;
+    let mut k = marks;
+    while 0 < m {
+        if k % 2 < m % 2 {
+            return false;
+        }
+        m = m / 2;
+        k = k / 2;
+    }
+    true
+}
+
+// Of category 65: 040 exactly in type 1, 020 exactly in type 2, 050 exactly in the third.
+fn has_of_type(kind: u8, marks: u32) -> bool
+    ensures { λ r. ⌜ r ≡ meets rowsByType kind (flagsOf 28 marks) ⌝ }
+{
+    let batch = is_marked(marks, 5);
+    let sdps = is_marked(marks, 6);
+    let report = is_marked(marks, 7);
+    match kind {
+        1 => !batch & sdps & !report,
+        2 => batch & !sdps & !report,
+        _ => !batch & !sdps & report,
+    }
+}
+
+// Whether a record of a type has the items that it must have, and none that it must not.
+pub fn is_present(number: u8, kind: u8, marks: u32) -> bool
+    ensures { λ r. ⌜ r ≡ meets (rowsOf number) kind (flagsOf 28 marks) ⌝ }
+{
+    let all = has_all(mandatory_of(number), marks);
+    if number == Cat65::NUMBER {
+        return all & has_of_type(kind, marks);
+    }
+    all
+}
