@@ -7,7 +7,7 @@ use lib.Dec.{eqb}
 use lib.ListN.{getD}
 use borrow.Author.Tests.{ne-eqb}
 use Rattle.octets.specs.Choice.{pick, odd}
-use Rattle.layouts.specs.Categories.{cat23, cat242, category, marksOf}
+use Rattle.layouts.specs.Categories.{cat23, cat242, category, fieldMarks}
 use Rattle.blocks.specs.Presence.{Need, M, X, row, rowsByType, rows23, rows242, rowsOf, met, meets}
 use Rattle.blocks.specs.Marks.{flagsOf, hasAll}
 
@@ -28,7 +28,7 @@ reorder false b c d x y = and-false b
 module _ (t m : ℕ) where
   -- category 65: its mandatory items, and those of the type
   pub rows-65 : (n : ℕ) → n ≡ 65
-      → meets (rowsOf n) t (flagsOf 28 m) ≡ (hasAll 32 (marksOf (category n .mandatory)) m && meets rowsByType t (flagsOf 28 m))
+      → meets (rowsOf n) t (flagsOf 28 m) ≡ (hasAll 32 (fieldMarks (category n .mandatory)) m && meets rowsByType t (flagsOf 28 m))
   unfolding meets flagsOf hasAll
   rows-65 n e =
       let bs = flagsOf 28 m in
@@ -38,12 +38,12 @@ module _ (t m : ℕ) where
 
   other : (n : ℕ) (a b : Bool)
       → meets (pick a rows23 (pick b rows242 [])) t (flagsOf 28 m)
-      ≡ hasAll 32 (marksOf (pick a cat23 (pick b cat242 (record { number = n; most = 0; fields = []; mandatory = [] })) .mandatory)) m
+      ≡ hasAll 32 (fieldMarks (pick a cat23 (pick b cat242 (record { number = n; most = 0; fields = []; mandatory = [] })) .mandatory)) m
   unfolding meets flagsOf hasAll
   other n true b = refl
   other n false true = refl
   other n false false = refl
 
   -- the others: their mandatory items
-  pub rows-other : (n : ℕ) → (n ≡ 65 → ⊥) → meets (rowsOf n) t (flagsOf 28 m) ≡ hasAll 32 (marksOf (category n .mandatory)) m
+  pub rows-other : (n : ℕ) → (n ≡ 65 → ⊥) → meets (rowsOf n) t (flagsOf 28 m) ≡ hasAll 32 (fieldMarks (category n .mandatory)) m
   rows-other n h = rw (ne-eqb n 65 h) (other n (eqb n 23) (eqb n 242))

@@ -25,21 +25,29 @@ row f a b c = record { field = f; need = λ t. pick (eqb t 1) a (pick (eqb t 2) 
 abbrev pub always : ℕ → Need → Row
 always f n = record { field = f; need = λ t. n }
 
--- the table of 000 §5.2.1, by the fields of 000 §5.3
+-- the table of 000 §5.2.1, by the fields of 000 §5.3: first the items that the types tell apart
+abbrev pub batch : Row
+batch = row 5 X M X
+
+abbrev pub sdps : Row
+sdps = row 6 M X X
+
+abbrev pub report : Row
+report = row 7 X X M
+
+abbrev pub rowsByType : List Row
+rowsByType = batch ∷ sdps ∷ report ∷ []
+
 abbrev pub rows65 : List Row
 rows65 =
     row 2 M M M  -- I065/000 Message Type
     ∷ row 1 M M M  -- I065/010 Data Source Identifier
     ∷ row 3 M M M  -- I065/015 Service Identification
-    ∷ row 5 X M X  -- I065/020 Batch Number
+    ∷ batch  -- I065/020 Batch Number
     ∷ row 4 M M M  -- I065/030 Time of Message
-    ∷ row 6 M X X  -- I065/040 SDPS configuration and status
-    ∷ row 7 X X M  -- I065/050 Service Status Report
+    ∷ sdps  -- I065/040 SDPS configuration and status
+    ∷ report  -- I065/050 Service Status Report
     ∷ []
-
--- of these, the items that the types tell apart
-abbrev pub rowsByType : List Row
-rowsByType = row 5 X M X ∷ row 6 M X X ∷ row 7 X X M ∷ []
 
 -- category 23: 000 and 070
 abbrev pub rows23 : List Row

@@ -107,6 +107,6 @@ abbrev pub fieldAt : Category → ℕ → Field
 fieldAt c f = record { 0 = formAt c f; 1 = kindOf (layoutAt c f) }
 
 -- marks of fields as a number: bit f - 1 for field f
-abbrev pub marksOf : List ℕ → ℕ
-marksOf [] = 0
-marksOf (f ∷ fs) = 2 ^ (f - 1) + marksOf fs
+abbrev pub fieldMarks : List ℕ → ℕ
+fieldMarks [] = 0
+fieldMarks (f ∷ fs) = 2 ^ (f - 1) + fieldMarks fs
