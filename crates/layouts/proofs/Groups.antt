@@ -52,10 +52,6 @@ merge-values [] x = omega arith
 merge-values (spare k ∷ ps) x = rw (merge-values ps x, mod-pow-add x k (bits ps))
 merge-values (value k ok ∷ ps) x = rw (merge-values ps x, mod-pow-add x k (bits ps))
 
--- any number with the same values is those values with its own spare bits
-pub merge-same : (ps : List Part) (x y : ℕ) → values ps x ≡ values ps y → merge ps (values ps x) y ≡ y % 2 ^ bits ps
-merge-same ps x y h = rw h (merge-values ps y)
-
 eights : (n : ℕ) → 2 ^ (n * 8) ≡ 256 ^ n
 eights zero = refl
 eights (suc n) = rw (suc-mul, pow-add, eights n, pow-suc 256 n)
