@@ -19,7 +19,10 @@ use Rattle.layouts.proofs.Formats.{Octets-drop}
 use Rattle.layouts.proofs.Windows.{window, window-long}
 use Rattle.blocks.specs.Specification.{zeros, putMarks}
 use Rattle.blocks.specs.Records.{Rec, recordOf, good, putRec}
-use Rattle.blocks.specs.Blocks.{Block, wrong, all, with, first, records, blockOf, putRecs, allGood, putBlock}
+use Rattle.blocks.specs.Headers.{headerOf}
+use Rattle.blocks.specs.Blocks.{Block, wrong, all, with, first, records, blockFrom, blockOf, putRecs, allGood, putBlock}
+use Rattle.blocks.specs.declared.header.Head.{Head}
+use Rattle.blocks.proofs.HeaderLaws.{Headed, header-cases, header-fits}
 use Rattle.blocks.proofs.RecordLaws.{record-held}
 use Rattle.blocks.proofs.RecordTheorems.{good-long, read-back, normal-short, rest-octets}
 
@@ -129,25 +132,8 @@ block-put cat rs k g some fit t =
     let is-len : number 2 s 1 ≡ len = rw (append-assoc head body t) (number-octets 2 len (cat ∷ []) (body ++ t) fit) in
     let is-body : window s len 3 ≡ body = rw (take-at (head ++ body) t len long, drop-at head body 3 three) in
     let enough : len ≤ length s = rw (length-append, long) (omega arith) in
-    rw (
-      is-len,
-      le-ltb (length s) 3 (omega arith),
-      k,
-      le-ltb len 4 (omega arith),
-      le-ltb (length s) len enough,
-      is-body,
-      records-put len (category cat) len rs g (omega arith),
-      category-number cat,
-    )
-
-module _ (P : ℕ → List Rec → Type 0) (n at : ℕ) (m : Block) where
-  unless : (b : Bool) → (b ≡ false → OfAll P m) → OfAll P (pick b (wrong n at) m)
-  unless true f = tt
-  unless false f = f refl
-
-  provided : (b : Bool) → (b ≡ true → OfAll P m) → OfAll P (pick b m (wrong n at))
-  provided true f = f refl
-  provided false f = tt
+    let head-good : Head.Good cat len ≡ headerOf s = header-fits s (omega arith) k len (sym is-len) (omega arith) enough in
+    rw (← head-good, is-body, records-put len (category cat) len rs g (omega arith), category-number cat)
 
 weaker : {P Q : ℕ → List Rec → Type 0} → ((cat : ℕ) (rs : List Rec) → P cat rs → Q cat rs)
     → (b : Block) → OfAll P b → OfAll Q b
@@ -176,18 +162,14 @@ block-sound s o =
     let cat = getD s 0 0 in
     let len = number 2 s 1 in
     let c = category cat in
-    unless (Sound s) _ _ _ (ltb (length s) 3) λ e1.
-    provided (Sound s) _ _ _ (known cat) λ e2.
-    unless (Sound s) _ _ _ (ltb len 4) λ e3.
-    unless (Sound s) _ _ _ (ltb (length s) len) λ e4.
-    let four = ltb-false len 4 e3 in
-    let long = window-long s len (ltb-false (length s) len e4) 3 in
+    header-cases s (λ h. OfAll (Sound s) (blockFrom s h)) (λ a. tt) (λ a b. tt) (λ a b d. tt) (λ a b d. tt) λ h.
+    let long = window-long s len (h .fits) 3 in
     weaker
     (λ cat' rs w. subst (λ x. Sound s x rs) (sym (w .same ∙ category-number cat)) record {
-      known = e2;
+      known = h .known;
       fine = w .fine;
-      some = w .some (omega arith);
-      short = omega (arith, w .short);
+      some = w .some (omega (arith, h .least));
+      short = omega (arith, w .short, h .least);
     })
     (records len len c (window s len 3))
     (records-filled len len c (window s len 3) (Octets-drop 3 (take len s) (Octets-take len s o)))

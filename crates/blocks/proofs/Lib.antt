@@ -1,3 +1,4 @@
+pub mod HeaderLaws
 pub mod RecordLaws
 pub mod RecordTheorems
 pub mod BlockLaws
@@ -8,5 +9,10 @@ pub mod MarksLaws
 pub mod PresenceLaws
 pub mod WalkSteps
 pub mod ReadSteps
+pub mod ListedLaws
+pub mod ItemStarts
+pub mod TypedLaws
+pub mod StepLaws
+pub mod AtEnd
 pub mod RecordStarts
 pub mod Examples

@@ -83,7 +83,7 @@ spare-more [] (suc n) (f ∷ fs) = spare-more [] n fs
 spare-more (b ∷ bs) n [] = rw (spare-more bs n [])
 spare-more (b ∷ bs) n (f ∷ fs) = rw (spare-more bs n fs)
 
-mark-more : (bs : List Bool) (n i : ℕ) → getD (bs ++ replicate n false) i false ≡ getD bs i false
+pub mark-more : (bs : List Bool) (n i : ℕ) → getD (bs ++ replicate n false) i false ≡ getD bs i false
 mark-more [] zero i = refl
 mark-more [] (suc n) zero = refl
 mark-more [] (suc n) (suc i) = mark-more [] n i

@@ -6,20 +6,20 @@ use mathlib.Core.List.{List, [], _∷_}
 use Prim.Native.Nat.{ℕ, zero, suc, _+_, _-_, _≤_, _<_}
 use native.Mathlib.Nat.{zero-add, add-zero, sub-zero}
 use native.Mathlib.Omega.{arith}
-use borrow.Author.Tests.{lt-ltb, le-ltb, leb-true, leb-false, lt-leb, le-leb}
+use borrow.Author.Tests.{leb-true, leb-false, lt-leb, le-leb}
 use lib.Dec.{leb, eqb}
-use lib.ListN.{length, getD}
-use Rattle.octets.specs.Numbers.{Octets, number}
-use Rattle.octets.specs.Refusals.{tooShort, unknownCategory, lenTooSmall, presenceBroken}
+use lib.ListN.{length}
+use Rattle.octets.specs.Numbers.{Octets}
+use Rattle.octets.specs.Refusals.{presenceBroken}
 use Rattle.layouts.specs.Formats.{Answer, refused, got, Format, Trace}
 use Rattle.layouts.specs.Offsets.{itemAt}
-use Rattle.layouts.specs.Categories.{Category, known, category}
+use Rattle.layouts.specs.Categories.{Category}
 use Rattle.layouts.proofs.Answers.{pick-yes, through}
 use Rattle.layouts.proofs.Windows.{run-within}
 use Rattle.blocks.specs.Records.{Rec, layoutOf, marksRefusal, present}
 use Rattle.blocks.specs.Blocks.{Block, wrong, all, with}
 use Rattle.blocks.specs.Offsets.{specsAt, itemsAt, recordAt, firstAt, recordsAt}
-use Rattle.blocks.specs.Walks.{onward, runOf, answerOf, readOf}
+use Rattle.blocks.specs.Walks.{onward, runOf, answerOf}
 use Rattle.blocks.specs.declared.walk.Walked.{Walked}
 use Rattle.blocks.specs.declared.walk.Walked.the-variants as walked
 use Rattle.blocks.specs.declared.walk.Reading.{Reading}
@@ -130,32 +130,3 @@ module _ (s : List ℕ) (len : ℕ) (c : Category) where
         let b = budget - 1 in
         subst (Follows (at + 1)) (run-one s len c at budget count b (omega arith) more ∙ sym e)
         (run-next (at + 1) b at count w more (λ q f v. run-follows b (at + 1) q (count + 1) (omega arith) v) (recordAt s len c at) refl)
-
--- A block, test after test
-module _ (s : List ℕ) where
-  pub read-short : length s < 3 → Reading.Refused tooShort 0 ≡ readOf s
-  unfolding readOf
-  read-short h = rw (lt-ltb (length s) 3 h)
-
-  module _ (long : 3 ≤ length s) where
-    abbrev cat : ℕ
-    cat = getD s 0 0
-
-    pub read-unknown : known cat ≡ false → Reading.Refused unknownCategory 0 ≡ readOf s
-    unfolding readOf
-    read-unknown h = rw (le-ltb (length s) 3 long, h)
-
-    module _ (k : known cat ≡ true) (len : ℕ) (is : len ≡ number 2 s 1) where
-      pub read-low : len < 4 → Reading.Refused lenTooSmall 0 ≡ readOf s
-      unfolding readOf
-      read-low h = rw (le-ltb (length s) 3 long, k, ← is, lt-ltb len 4 h)
-
-      module _ (least : 4 ≤ len) where
-        pub read-cut : length s < len → Reading.Refused tooShort 0 ≡ readOf s
-        unfolding readOf
-        read-cut h = rw (le-ltb (length s) 3 long, k, ← is, le-ltb len 4 least, lt-ltb (length s) len h)
-
-        pub read-body : len ≤ length s
-            → (r : Reading) → r ≡ answerOf len (recordsAt s len (category cat) len 3) → r ≡ readOf s
-        unfolding readOf
-        read-body h r e = e ∙ rw (le-ltb (length s) 3 long, k, ← is, le-ltb len 4 least, le-ltb (length s) len h)

@@ -12,8 +12,8 @@ use lib.Seq.{getD-set-same, getD-set-other}
 use Rattle.octets.specs.Choice.{pick}
 use Rattle.layouts.specs.Layouts.{kindOf}
 use Rattle.layouts.specs.Ends.{kindEnd}
-use Rattle.layouts.specs.Categories.{Category, category, layoutAt}
-use Rattle.blocks.specs.Typed.{endFrom, marked, behind, startOf, record23, record65, record242, typedOf}
+use Rattle.layouts.specs.Categories.{Category, cat23, cat65, cat242, category, known, layoutAt}
+use Rattle.blocks.specs.Typed.{endFrom, marked, behind, startOf, typedBy, typedOf}
 
 -- what holds by either answer of a test holds
 by-test : {P : Type 0} (b : Bool) → (b ≡ true → P) → (b ≡ false → P) → P
@@ -96,15 +96,17 @@ module _ (s : List ℕ) (len : ℕ) (c : Category) (marks at : ℕ) where
 -- a typed record asks for the starts of fields 1 to 14 only: where the array has those, it serves
 module _ (s : List ℕ) (len number marks at : ℕ) (starts : List ℕ)
     (same : (f : ℕ) → 1 ≤ f → f < 15 → getD starts f 0 ≡ startOf s len (category number) marks at f) where
-  pub typed-23 : number ≡ 23 → record23 s (λ f. getD starts f 0) marks ≡ typedOf s len number marks at
+  pub typed-23 : number ≡ 23 → typedBy s cat23 (λ f. getD starts f 0) marks ≡ typedOf s len number marks at
   unfolding typedOf
   typed-23 h = simp (same, leb-true, eq-eqb number 23 h)
 
   module _ (not23 : number ≡ 23 → ⊥) where
-    pub typed-65 : number ≡ 65 → record65 s (λ f. getD starts f 0) marks ≡ typedOf s len number marks at
+    pub typed-65 : number ≡ 65 → typedBy s cat65 (λ f. getD starts f 0) marks ≡ typedOf s len number marks at
     unfolding typedOf
     typed-65 h = simp (same, leb-true, ne-eqb number 23 not23, eq-eqb number 65 h)
 
-    pub typed-242 : (number ≡ 65 → ⊥) → record242 s (λ f. getD starts f 0) marks ≡ typedOf s len number marks at
+    pub typed-242 : (number ≡ 65 → ⊥) → known number ≡ true → typedBy s cat242 (λ f. getD starts f 0) marks ≡ typedOf s len number marks at
     unfolding typedOf
-    typed-242 h = simp (same, leb-true, ne-eqb number 23 not23, ne-eqb number 65 h)
+    typed-242 h k =
+        let is : eqb number 242 ≡ true = simp (ne-eqb number 23 not23, ne-eqb number 65 h) at k in
+        simp (same, leb-true, ne-eqb number 23 not23, ne-eqb number 65 h, is)

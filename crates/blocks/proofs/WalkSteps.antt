@@ -242,7 +242,7 @@ module _ (s : List ℕ) (len : ℕ) (c : Category) (at : ℕ) where
     abbrev end : End
     end = chainEnd s len longSpecification 1 (m - 1) at
 
-    spec-ended : (r : End) → r ≡ end → Ended specification r
+    pub spec-ended : (r : End) → r ≡ end → Ended specification r
     spec-ended r h = ended specification (h ∙ rw most (sym (spec-end s len (c .most - 1) at)))
 
     pub spec-at : (p : ℕ) → At p ≡ end → Octets s → Spec p

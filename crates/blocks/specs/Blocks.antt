@@ -2,13 +2,13 @@
 use mathlib.Core.Bool.{Bool, true, _&&_}
 use mathlib.Core.List.{List, [], _∷_, _++_}
 use Prim.Native.Nat.{ℕ, zero, suc, _+_, _-_}
-use lib.Dec.{ltb}
-use lib.ListN.{length, getD, take, drop}
-use Rattle.octets.specs.Choice.{pick}
-use Rattle.octets.specs.Numbers.{number, octets}
-use Rattle.octets.specs.Refusals.{tooShort, unknownCategory, lenTooSmall}
+use lib.ListN.{length, take, drop}
+use Rattle.octets.specs.Numbers.{octets}
 use Rattle.layouts.specs.Formats.{Answer, refused, got}
-use Rattle.layouts.specs.Categories.{Category, known, category}
+use Rattle.layouts.specs.Categories.{Category, category}
+use Rattle.blocks.specs.Headers.{headerOf}
+use Rattle.blocks.specs.declared.header.Head.{Head}
+use Rattle.blocks.specs.declared.header.Head.the-variants.{Good, Refused}
 use Rattle.blocks.specs.Records.{Rec, recordOf, good, putRec}
 
 -- a refusal number and the offset of the faulty record's first octet; or the category's number and the records
@@ -32,17 +32,13 @@ records zero len c (x ∷ s) = wrong 0 0
 records (suc n) len c [] = all (c .number) []
 records (suc n) len c (x ∷ s) = first len (length (x ∷ s)) (recordOf c (x ∷ s)) (λ t. records n len c t)
 
--- under 3 octets; category; LEN below 4; LEN beyond; then record by record (01 "Reading order")
+-- the header, and then record by record; octets after LEN are not read
+abbrev pub blockFrom : List ℕ → Head → Block
+blockFrom s (Refused n) = wrong n 0
+blockFrom s (Good cat len) = records len len (category cat) (drop 3 (take len s))
+
 unfoldable pub blockOf : List ℕ → Block
-blockOf s =
-    let cat = getD s 0 0 in
-    let len = number 2 s 1 in
-    let body = records len len (category cat) (drop 3 (take len s)) in
-    pick (ltb (length s) 3) (wrong tooShort 0)
-    (pick (known cat)
-    (pick (ltb len 4) (wrong lenTooSmall 0)
-    (pick (ltb (length s) len) (wrong tooShort 0) body))
-    (wrong unknownCategory 0))
+blockOf s = blockFrom s (headerOf s)
 
 unfoldable pub putRecs : Category → List Rec → List ℕ
 putRecs c [] = []

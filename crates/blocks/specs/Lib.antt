@@ -2,8 +2,12 @@ pub mod Specification
 pub mod Presence
 pub mod Marks
 pub mod Records
+pub mod Headers
 pub mod Blocks
 pub mod Offsets
 pub mod Walks
 pub mod Alike
 pub mod Typed
+pub mod Steps
+pub mod Meaning
+pub mod Boundaries

@@ -1,23 +1,107 @@
--- The typed record: the values of its items, each read where the item starts; zeros for an item that is not there.
+-- The typed record: of each item its values, by its form; an item that is not there has none, and is all zero.
 use mathlib.Core.Bool.{Bool, false}
-use mathlib.Core.List.{List, []}
-use Prim.Native.Nat.{ℕ, zero, suc, _-_}
+use mathlib.Core.List.{List, [], _∷_}
+use Prim.Native.Nat.{ℕ, zero, suc, _+_, _-_}
 use lib.Dec.{eqb}
-use lib.ListN.{length, getD}
+use lib.ListN.{length, getD, take}
 use Rattle.octets.specs.Choice.{pick}
-use Rattle.layouts.specs.Formats.{Trace}
+use Rattle.layouts.specs.Formats.{Answer, refused, got, Trace}
 use Rattle.layouts.specs.Offsets.{traceAt}
-use Rattle.layouts.specs.Layouts.{Layout, octet, format, kindOf}
+use Rattle.layouts.specs.Layouts.{format, kindOf}
 use Rattle.layouts.specs.Ends.{kindEnd}
 use Rattle.layouts.specs.Tables.{layout}
 use Rattle.layouts.specs.Categories.{Category, category, layoutAt}
 use Rattle.layouts.specs.declared.ends.End.{End}
 use Rattle.layouts.specs.declared.ends.End.the-variants.{At, Refused}
 use Rattle.layouts.specs.declared.form.Form.{Form}
+use Rattle.layouts.specs.declared.form.Form.the-variants as form
 use Rattle.items.specs.Typed.{val, sourceOf, serviceOf, timeOf, sdpsOf, stationOf, configurationOf, placeAt}
 use Rattle.items.specs.declared.typed.Place.{Place}
-use Rattle.blocks.specs.Marks.{flagsOf}
+use Rattle.blocks.specs.Specification.{flags}
+use Rattle.blocks.specs.Marks.{marksOf, flagsOf}
+use Rattle.blocks.specs.Records.{Rec, layoutOf, putItems}
 use Rattle.blocks.specs.declared.record.Record.{Record}
+
+abbrev pub nowhere : Place
+nowhere = record { at = 0; count = 0 }
+
+-- the record of a category with these marks, of each item's values and of the places of entries and content: `place` is given an item's
+-- form and how many more than these its count octet has
+abbrev pub typed : ℕ → ℕ → (Form → Trace) → (Form → ℕ → Place) → Record
+typed number marks values place = record {
+  category = number;
+  marks = marks;
+  source = sourceOf (values Form.Source);
+  «message_type» = val (values Form.MessageType) 0 0;
+  service = serviceOf (values Form.Service);
+  identification = val (values Form.Identification) 0 0;
+  time = timeOf (values Form.Time);
+  batch = val (values Form.Batch) 0 0;
+  sdps = sdpsOf (values Form.Sdps);
+  report = val (values Form.Report) 0 0;
+  station = stationOf (values Form.Station);
+  configuration = configurationOf (values Form.Configuration);
+  range = val (values Form.Range) 0 0;
+  status = val (values Form.Status) 0 0;
+  entries = place (pick (eqb number 242) Form.Versions Form.Statistics) 0;
+  expansion = place Form.Expansion 1;
+  purpose = place Form.Purpose 1;
+}
+
+-- no record: no category, no mark and no item
+abbrev pub absent : Record
+absent = typed 0 0 (λ f. []) (λ f e. nowhere)
+
+-- the forms in turn
+abbrev pub turn : Form → ℕ
+turn form.Spare = 0
+turn form.Source = 1
+turn form.MessageType = 2
+turn form.Service = 3
+turn form.Identification = 4
+turn form.Time = 5
+turn form.Batch = 6
+turn form.Sdps = 7
+turn form.Report = 8
+turn form.Station = 9
+turn form.Configuration = 10
+turn form.Range = 11
+turn form.Status = 12
+turn form.Statistics = 13
+turn form.Versions = 14
+turn form.Expansion = 15
+turn form.Purpose = 16
+
+-- one field further; none stays none
+abbrev pub further : ℕ → ℕ
+further zero = 0
+further (suc f) = suc (suc f)
+
+-- the number of the field of a form, from 1; 0 where there is none
+abbrev pub fieldFor : List Form → Form → ℕ
+fieldFor [] f = 0
+fieldFor (g ∷ gs) f = pick (eqb (turn g) (turn f)) 1 (further (fieldFor gs f))
+
+-- Of a record that was read, its items behind an offset
+
+-- the place of an item's entries or content, whose first octet, that counts e more, stands at an offset
+abbrev pub placeIn : ℕ → ℕ → Trace → Place
+placeIn at e [] = nowhere
+placeIn at e (v ∷ tr) = record { at = at + 1; count = getD v 0 0 - e }
+
+module _ (c : Category) (r : Rec) (at : ℕ) where
+  -- the values of the item of a form
+  abbrev pub valuesFor : Form → Trace
+  valuesFor f = getD ([] ∷ r .items) (fieldFor (c .fields) f) []
+
+  -- where it starts: behind the items of the fields before it
+  abbrev pub startFor : Form → ℕ
+  startFor f = at + length (putItems (take (fieldFor (c .fields) f - 1) (layoutOf c (r .marks))) (r .items) [])
+
+  unfoldable pub typedRec : Record
+  typedRec = typed (c .number) (marksOf (flags (r .marks))) valuesFor (λ f e. placeIn (startFor f) e (valuesFor f))
+
+-- Of octets: each item is read at its start; what is not there is read at the end of the octets, where everything is zero
 
 abbrev pub endFrom : ℕ → End → ℕ
 endFrom at (At q) = q
@@ -36,82 +120,14 @@ module _ (s : List ℕ) (len : ℕ) (c : Category) (marks at : ℕ) where
   unfoldable pub startOf : ℕ → ℕ
   startOf f = pick (marked f) (behind (f - 1)) (length s)
 
--- of each item the values at its start, by the fields of its category
-module _ (s : List ℕ) (start : ℕ → ℕ) where
-  abbrev pub there : Form → ℕ → Trace
-  there form f = traceAt (format (layout form)) s (start f)
+module _ (s : List ℕ) (c : Category) (start : ℕ → ℕ) where
+  -- where the item of a form starts, from the starts by field number
+  abbrev pub startBy : Form → ℕ
+  startBy f = pick (eqb (fieldFor (c .fields) f) 0) (length s) (start (fieldFor (c .fields) f))
 
-  abbrev pub octetOf : ℕ → ℕ
-  octetOf f = val (traceAt (format (Layout.fixed octet)) s (start f)) 0 0
-
-  abbrev pub nowhere : Place
-  nowhere = record { at = 0; count = 0 }
-
-  abbrev pub record23 : ℕ → Record
-  record23 marks = record {
-    category = 23;
-    marks = marks;
-    source = sourceOf (there Form.Source 1);
-    «message_type» = octetOf 2;
-    service = serviceOf (there Form.Service 3);
-    identification = 0;
-    time = timeOf (there Form.Time 4);
-    batch = 0;
-    sdps = sdpsOf [];
-    report = 0;
-    station = stationOf (there Form.Station 5);
-    configuration = configurationOf (there Form.Configuration 6);
-    range = octetOf 7;
-    status = val (there Form.Status 8) 0 0;
-    entries = placeAt s (start 9) 0;
-    expansion = placeAt s (start 13) 1;
-    purpose = placeAt s (start 14) 1;
-  }
-
-  abbrev pub record65 : ℕ → Record
-  record65 marks = record {
-    category = 65;
-    marks = marks;
-    source = sourceOf (there Form.Source 1);
-    «message_type» = octetOf 2;
-    service = serviceOf [];
-    identification = octetOf 3;
-    time = timeOf (there Form.Time 4);
-    batch = octetOf 5;
-    sdps = sdpsOf (there Form.Sdps 6);
-    report = octetOf 7;
-    station = stationOf [];
-    configuration = configurationOf [];
-    range = 0;
-    status = 0;
-    entries = nowhere;
-    expansion = placeAt s (start 13) 1;
-    purpose = placeAt s (start 14) 1;
-  }
-
-  abbrev pub record242 : ℕ → Record
-  record242 marks = record {
-    category = 242;
-    marks = marks;
-    source = sourceOf (there Form.Source 1);
-    «message_type» = 0;
-    service = serviceOf [];
-    identification = 0;
-    time = timeOf (there Form.Time 2);
-    batch = 0;
-    sdps = sdpsOf [];
-    report = 0;
-    station = stationOf [];
-    configuration = configurationOf [];
-    range = 0;
-    status = 0;
-    entries = placeAt s (start 3) 0;
-    expansion = placeAt s (start 7) 1;
-    purpose = placeAt s (start 6) 1;
-  }
+  abbrev pub typedBy : ℕ → Record
+  typedBy marks = typed (c .number) marks (λ f. traceAt (format (layout f)) s (startBy f)) (λ f e. placeAt s (startBy f) e)
 
 -- a record of a category whose items start behind its specification
 unfoldable pub typedOf : List ℕ → ℕ → ℕ → ℕ → ℕ → Record
-typedOf s len number marks at =
-    let start = startOf s len (category number) marks at in
-    pick (eqb number 23) (record23 s start marks) (pick (eqb number 65) (record65 s start marks) (record242 s start marks))
+typedOf s len number marks at = typedBy s (category number) (startOf s len (category number) marks at) marks

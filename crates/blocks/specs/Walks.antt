@@ -2,19 +2,23 @@
 use mathlib.Core.Bool.{Bool}
 use mathlib.Core.List.{List, []}
 use Prim.Native.Nat.{ℕ, zero, suc, _+_, _-_}
-use lib.Dec.{leb, ltb, eqb}
+use lib.Dec.{leb, eqb}
 use lib.ListN.{length, getD, drop}
 use Rattle.octets.specs.Choice.{pick}
 use Rattle.octets.specs.Numbers.{number}
-use Rattle.octets.specs.Refusals.{tooShort, unknownCategory, lenTooSmall, presenceBroken}
+use Rattle.octets.specs.Refusals.{presenceBroken}
 use Rattle.layouts.specs.Formats.{Answer, refused, got, Trace}
-use Rattle.layouts.specs.Categories.{Category, known, category}
+use Rattle.layouts.specs.Categories.{Category, category}
 use Rattle.blocks.specs.Presence.{rowsOf, meets}
 use Rattle.blocks.specs.Records.{Rec, formats}
-use Rattle.blocks.specs.Blocks.{Block, wrong, all}
+use Rattle.blocks.specs.Blocks.{Block, wrong, all, blockOf}
 use Rattle.blocks.specs.Offsets.{itemsAt, recordAt, recordsAt}
+use Rattle.blocks.specs.Headers.{headerOf}
+use Rattle.blocks.specs.declared.header.Head.{Head}
+use Rattle.blocks.specs.declared.header.Head.the-variants as head
 use Rattle.blocks.specs.declared.walk.Walked.{Walked}
 use Rattle.blocks.specs.declared.walk.Reading.{Reading}
+use Rattle.blocks.specs.declared.walk.Reading.the-variants as reading
 
 module _ (s : List ℕ) (len : ℕ) (c : Category) where
   abbrev pub onward : ℕ → Answer ℕ Rec → (ℕ → Walked) → Walked
@@ -47,14 +51,36 @@ abbrev pub answerOf : ℕ → Block → Reading
 answerOf len (wrong n at) = Reading.Refused n at
 answerOf len (all cat rs) = Reading.Accepted len (length rs)
 
--- under 3 octets; category; LEN below 4; LEN beyond; then record by record (01 "Reading order")
+-- the header, and then record by record (01 "Reading order")
+abbrev pub readFrom : List ℕ → Head → Reading
+readFrom s (head.Refused n) = Reading.Refused n 0
+readFrom s (head.Good cat len) = answerOf len (recordsAt s len (category cat) len 3)
+
 unfoldable pub readOf : List ℕ → Reading
-readOf s =
-    let cat = getD s 0 0 in
-    let len = number 2 s 1 in
-    let body = answerOf len (recordsAt s len (category cat) len 3) in
-    pick (ltb (length s) 3) (Reading.Refused tooShort 0)
-    (pick (known cat)
-    (pick (ltb len 4) (Reading.Refused lenTooSmall 0)
-    (pick (ltb (length s) len) (Reading.Refused tooShort 0) body))
-    (Reading.Refused unknownCategory 0))
+readOf s = readFrom s (headerOf s)
+
+-- The answer's cases, with document 01's number and values: LEN 0 and count 0 where it is refused
+
+pub record ReadListed : Type 0 where
+  pub number : ℕ
+  pub offset : ℕ
+  pub len : ℕ
+  pub count : ℕ
+
+abbrev pub readRefused : ℕ → ℕ → ReadListed
+readRefused n at = record { number = n; offset = at; len = 0; count = 0 }
+
+abbrev pub readAccepted : ℕ → ℕ → ReadListed
+readAccepted len count = record { number = 0; offset = 0; len = len; count = count }
+
+abbrev pub listedReading : Reading → ReadListed
+listedReading (reading.Refused n at) = readRefused n at
+listedReading (reading.Accepted len count) = readAccepted len count
+
+-- of the block's records as they fill LEN, each read from the octets that are left
+abbrev pub blockListed : ℕ → Block → ReadListed
+blockListed len (wrong n at) = readRefused n at
+blockListed len (all cat rs) = readAccepted len (length rs)
+
+unfoldable pub readListed : List ℕ → ReadListed
+readListed s = blockListed (number 2 s 1) (blockOf s)

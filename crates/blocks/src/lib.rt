@@ -1,4 +1,6 @@
 // Blocks of records: the header, the specification, and records one after the other.
+pub mod cursor;
+pub mod header;
 pub mod marks;
 pub mod presence;
 pub mod record;

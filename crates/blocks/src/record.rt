@@ -1,11 +1,12 @@
 // The typed record, made from the places where its items start.
 ghost use mathlib.Core.Path.{_≡_};
+ghost use mathlib.Core.Bool.{true};
 ghost use Prim.Native.Nat.{ℕ, _+_, _≤_, _<_};
 ghost use lib.ListN.{length, getD};
 ghost use Rattle.layouts.specs.Layouts.{kindOf};
 ghost use Rattle.layouts.specs.Ends.{kindEnd};
-ghost use Rattle.layouts.specs.Categories.{category, layoutAt};
-ghost use Rattle.blocks.specs.Typed.{endFrom, startOf, record23, record65, record242, typedOf};
+ghost use Rattle.layouts.specs.Categories.{cat23, cat65, cat242, category, known, layoutAt};
+ghost use Rattle.blocks.specs.Typed.{endFrom, startOf, typedBy, typedOf};
 use crate::marks::is_marked;
 use items::item::configuration_at;
 use items::item::octet_at;
@@ -119,7 +120,7 @@ fn starts_at(s: &[u8], len: usize, number: u8, marks: u32, at: usize) -> [usize;
 
 fn record_23(s: &[u8], marks: u32, starts: [usize; 15]) -> Record
     requires { ⌜ ((f : ℕ) → getD starts f 0 ≤ length (now s)) ⌝ }
-    ensures { λ r. ⌜ r ≡ record23 (now (s .entry)) (λ f. getD starts f 0) marks ⌝ }
+    ensures { λ r. ⌜ r ≡ typedBy (now (s .entry)) cat23 (λ f. getD starts f 0) marks ⌝ }
 {
     Record {
         category: Cat23::NUMBER,
@@ -144,7 +145,7 @@ fn record_23(s: &[u8], marks: u32, starts: [usize; 15]) -> Record
 
 fn record_65(s: &[u8], marks: u32, starts: [usize; 15]) -> Record
     requires { ⌜ ((f : ℕ) → getD starts f 0 ≤ length (now s)) ⌝ }
-    ensures { λ r. ⌜ r ≡ record65 (now (s .entry)) (λ f. getD starts f 0) marks ⌝ }
+    ensures { λ r. ⌜ r ≡ typedBy (now (s .entry)) cat65 (λ f. getD starts f 0) marks ⌝ }
 {
     Record {
         category: Cat65::NUMBER,
@@ -169,7 +170,7 @@ fn record_65(s: &[u8], marks: u32, starts: [usize; 15]) -> Record
 
 fn record_242(s: &[u8], marks: u32, starts: [usize; 15]) -> Record
     requires { ⌜ ((f : ℕ) → getD starts f 0 ≤ length (now s)) ⌝ }
-    ensures { λ r. ⌜ r ≡ record242 (now (s .entry)) (λ f. getD starts f 0) marks ⌝ }
+    ensures { λ r. ⌜ r ≡ typedBy (now (s .entry)) cat242 (λ f. getD starts f 0) marks ⌝ }
 {
     Record {
         category: Cat242::NUMBER,
@@ -194,7 +195,7 @@ fn record_242(s: &[u8], marks: u32, starts: [usize; 15]) -> Record
 
 // The typed record of a category whose items start at an offset.
 pub fn typed_record(s: &[u8], len: usize, number: u8, marks: u32, at: usize) -> Record
-    requires { ⌜ (at ≤ len) × (len ≤ length (now s)) ⌝ }
+    requires { ⌜ (at ≤ len) × (len ≤ length (now s)) × (known number ≡ true) ⌝ }
     ensures { λ r. ⌜ r ≡ typedOf (now (s .entry)) len number marks at ⌝ }
 {
     let starts = starts_at(s, len, number, marks, at);

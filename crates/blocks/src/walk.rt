@@ -8,14 +8,15 @@ ghost use Rattle.octets.specs.Choice.{pick};
 ghost use Rattle.layouts.specs.Categories.{category, known};
 ghost use Rattle.blocks.specs.Marks.{flagsOf};
 ghost use Rattle.blocks.specs.Offsets.{recordsAt};
-ghost use Rattle.blocks.specs.Walks.{runOf, restOf, answerOf, readOf};
+ghost use Rattle.blocks.specs.Walks.{runOf, restOf, answerOf, readOf, listedReading, readListed};
+use crate::header::Head;
+use crate::header::header;
 use crate::marks::is_marked;
 use crate::marks::marks_at;
 use crate::marks::marks_refusal;
 use crate::presence::is_present;
 use layouts::category::Cat242;
 use layouts::category::field_of;
-use layouts::category::is_known;
 use layouts::category::most_of;
 use layouts::ends::End;
 use layouts::ends::specification_end;
@@ -52,7 +53,14 @@ fn last_field(number: u8) -> usize
 }
 
 // From a record on, at most so many records.
-fn record_walk(s: &[u8], len: usize, number: u8, at: usize, budget: usize, count: usize) -> Walked
+pub(crate) fn record_walk(
+    s: &[u8],
+    len: usize,
+    number: u8,
+    at: usize,
+    budget: usize,
+    count: usize,
+) -> Walked
     requires { ⌜ (at ≤ len) × (len ≤ length (now s)) × (known number ≡ true) × (count ≤ at) ⌝ }
     ensures { λ r. ⌜ r ≡ runOf (now (s .entry)) len (category number) budget at count ⌝ }
 {
@@ -126,23 +134,13 @@ fn item_walk(
 
 // A block's records: LEN and their count, or the first refusal.
 pub fn read(s: &[u8]) -> Reading
-    ensures { λ r. ⌜ r ≡ readOf (now (s .entry)) ⌝ }
+    ensures { λ r. ⌜ (r ≡ readOf (now (s .entry))) × (listedReading r ≡ readListed (now (s .entry))) ⌝ }
 {
-    if s.len() < 3 {
-        return Reading::Refused(refusal::TOO_SHORT, 0);
+    let head = header(s);
+    match head {
+        Head::Refused(n) => Reading::Refused(n, 0),
+        Head::Good(number, len) => read_records(s, len, number),
     }
-    let number = s[0];
-    if !is_known(number) {
-        return Reading::Refused(refusal::UNKNOWN_CATEGORY, 0);
-    }
-    let len = octets::read2(s, 1) as usize;
-    if len < 4 {
-        return Reading::Refused(refusal::LEN_TOO_SMALL, 0);
-    }
-    if s.len() < len {
-        return Reading::Refused(refusal::TOO_SHORT, 0);
-    }
-    read_records(s, len, number)
 }
 
 // Run after run, so that the depth of calls does not grow with the number of records.

@@ -69,7 +69,7 @@ module _ (s : List ℕ) (len : ℕ) (fit : len ≤ length s) where
       omega (arith, suc-mul n (g .wide), times-room n g (at + g .wide) (w .0) q (omega arith) (w .1))
 
   module _ (e : ℕ) (g : Group) (at : ℕ) (tr : Trace) (q : ℕ) (h : runAt s len (counted e g) at ≡ got tr q) where
-    counted-read : (e < val tr 0 0) × (at + 1 + (val tr 0 0 - e) * g .wide ≤ len)
+    pub counted-read : (e < val tr 0 0) × (at + 1 + (val tr 0 0 - e) * g .wide ≤ len)
     unfolding counted traceAt values
     counted-read =
         let n = number 1 s at / 1 % 256 in

@@ -1,5 +1,7 @@
 -- `record_23`: each item is read at its start, and the record is made of what is read. Assumes nothing.
+use mathlib.Core.Path.{_∙_}
 use borrow.Author.Needs.{needs}
+use Rattle.blocks.proofs.AtEnd.{end-value, octet-type}
 use Rattle.blocks.proofs.record.record_23.Statement.{statement}
 use Rattle.blocks.proofs.record.record_23.Tie as tie
 
@@ -31,7 +33,7 @@ record-23-spec =
     (λ c κs. c .before .before .before .before .before .before .before .before .before .before .before .pre 14)
     (λ c. simp (
       c .before .before .before .before .before .before .before .before .before .before .source-at .ensures,
-      c .before .before .before .before .before .before .before .before .before .octet-at .ensures,
+      c .before .before .before .before .before .before .before .before .before .octet-at .ensures ∙ octet-type _ _,
       c .before .before .before .before .before .before .before .before .service-at .ensures,
       c .before .before .before .before .before .before .before .time-at .ensures,
       c .before .before .before .before .before .before .station-at .ensures,
@@ -41,4 +43,5 @@ record-23-spec =
       c .before .before .place-at .ensures,
       c .before .place-at2 .ensures,
       c .place-at3 .ensures,
+      end-value,
     )))

@@ -1,5 +1,6 @@
 -- `record_242`: each item is read at its start, and the record is made of what is read. Assumes nothing.
 use borrow.Author.Needs.{needs}
+use Rattle.blocks.proofs.AtEnd.{end-value}
 use Rattle.blocks.proofs.record.record_242.Statement.{statement}
 use Rattle.blocks.proofs.record.record_242.Tie as tie
 
@@ -23,4 +24,5 @@ record-242-spec =
       c .before .before .place-at .ensures,
       c .before .place-at2 .ensures,
       c .place-at3 .ensures,
+      end-value,
     )))

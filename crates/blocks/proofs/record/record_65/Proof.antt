@@ -1,5 +1,7 @@
 -- `record_65`: each item is read at its start, and the record is made of what is read. Assumes nothing.
+use mathlib.Core.Path.{_∙_}
 use borrow.Author.Needs.{needs}
+use Rattle.blocks.proofs.AtEnd.{end-value, end-place, octet-type, octet-report}
 use Rattle.blocks.proofs.record.record_65.Statement.{statement}
 use Rattle.blocks.proofs.record.record_65.Tie as tie
 
@@ -27,12 +29,14 @@ record-65-spec =
     (λ c κs. c .before .before .before .before .before .before .before .before .before .pre 14)
     (λ c. simp (
       c .before .before .before .before .before .before .before .before .source-at .ensures,
-      c .before .before .before .before .before .before .before .octet-at .ensures,
+      c .before .before .before .before .before .before .before .octet-at .ensures ∙ octet-type _ _,
       c .before .before .before .before .before .before .octet-at2 .ensures,
       c .before .before .before .before .before .time-at .ensures,
       c .before .before .before .before .octet-at3 .ensures,
       c .before .before .before .sdps-at .ensures,
-      c .before .before .octet-at4 .ensures,
+      c .before .before .octet-at4 .ensures ∙ octet-report _ _,
       c .before .place-at .ensures,
       c .place-at2 .ensures,
+      end-place,
+      end-value,
     )))

@@ -18,7 +18,7 @@ returns-2 c =
 returns-3 : tie.Need-returns-3
 returns-3 c =
     let b = c .before .before in
-    c .record-242 .ensures ∙ typed-242 _ _ _ _ _ (b .before .starts-at .result) (b .before .starts-at .ensures .0) (b .if1 .left) (c .before .if2 .left)
+    c .record-242 .ensures ∙ typed-242 _ _ _ _ _ (b .before .starts-at .result) (b .before .starts-at .ensures .0) (b .if1 .left) (c .before .if2 .left) (b .before .before .before .pre .2)
 
 pub typed-record-spec : {M : Type 1} → statement M
 typed-record-spec =

@@ -1,23 +1,37 @@
--- `read`: test after test, and then the records. Assumes nothing.
-use mathlib.Core.Path.{sym, _∙_}
+-- `read`: by the header, and then the records. Assumes nothing.
+use mathlib.Core.Path.{_≡_, sym, ap, _∙_}
+use mathlib.Core.List.{List}
+use Prim.Native.Nat.{ℕ}
 use native.Mathlib.Omega.{arith}
 use borrow.Author.Needs.{needs}
-use borrow.Author.Tests.{not-true, not-false}
-use Rattle.blocks.proofs.ReadSteps as steps
+use Rattle.blocks.specs.Headers.{headerOf}
+use Rattle.blocks.specs.Walks.{readFrom, readOf, listedReading, readListed}
+use Rattle.blocks.specs.declared.header.Head.{Head}
+use Rattle.blocks.specs.declared.walk.Reading.{Reading}
+use Rattle.blocks.proofs.HeaderLaws.{header-good}
+use Rattle.blocks.proofs.ListedLaws.{read-listed}
 use Rattle.blocks.proofs.walk.read.Statement.{statement}
 use Rattle.blocks.proofs.walk.read.Tie as tie
+
+-- the answer that goes with a header, and its number and values
+read-by : (s : List ℕ) (h : Head) → h ≡ headerOf s → (r : Reading) → r ≡ readFrom s h → (r ≡ readOf s) × (listedReading r ≡ readListed s)
+unfolding readOf
+read-by s h e r k = let is : r ≡ readFrom s (headerOf s) = k ∙ ap (readFrom s) e in (is, ap listedReading is ∙ read-listed s)
 
 pub read-spec : {M : Type 1} → statement M
 read-spec =
     tie.close
     (tie.spec
-    (λ c. steps.read-short _ (c .if1 .taken))
-    (λ c. search needs)
-    (λ c κs. search needs)
-    (λ c. steps.read-unknown _ (omega arith) (sym (c .before .is-known .ensures) ∙ not-true _ (c .if2 .taken)))
     (λ c κs. search needs)
     (λ c. search needs)
-    (λ c. steps.read-low _ (omega arith) (sym (c .before .before .before .is-known .ensures) ∙ not-false _ (c .before .before .if2 .left)) _ (c .before .read2 .ensures) (c .if3 .taken))
-    (λ c. steps.read-cut _ (omega arith) (sym (c .before .before .before .before .is-known .ensures) ∙ not-false _ (c .before .before .before .if2 .left)) _ (c .before .before .read2 .ensures) (c .before .if3 .left) (c .if4 .taken))
-    (λ c κs. (omega arith, omega arith, sym (c .before .before .before .before .is-known .ensures) ∙ not-false _ (c .before .before .before .if2 .left)))
-    (λ c. steps.read-body _ (omega arith) (sym (c .before .before .before .before .before .is-known .ensures) ∙ not-false _ (c .before .before .before .before .if2 .left)) _ (c .before .before .before .read2 .ensures) (c .before .before .if3 .left) (c .before .if4 .left) _ (c .read-records .ensures)))
+    (λ c. search needs)
+    (λ c κs.
+    let h = c .before .before .before in
+    let w = header-good _ _ _ (sym (h .header .ensures) ∙ c .before .head2 .given .1) in
+    (omega (arith, w .least), w .fits, w .known))
+    (λ c.
+    let h = c .before .before .before in
+    read-by _ (Head.Refused (c .before .head .given .0 .0)) (sym (c .before .head .given .1) ∙ h .header .ensures) _ (search needs))
+    (λ c.
+    let h = c .before .before .before .before in
+    read-by _ _ (sym (c .before .before .head2 .given .1) ∙ h .header .ensures) _ (c .read-records .ensures)))

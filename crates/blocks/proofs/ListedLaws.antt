@@ -1,0 +1,95 @@
+-- Reading, steps and entries listed by document 01's number and values: what is listed is listed of the answer itself. Assumes nothing.
+use mathlib.Core.Path.{_≡_, refl, sym, ap}
+use mathlib.Core.Bool.{Bool, true, false, _||_}
+use mathlib.Core.List.{List}
+use Prim.Native.Nat.{ℕ}
+use lib.Dec.{leb, ltb, eqb}
+use lib.ListN.{getD}
+use Rattle.octets.specs.Choice.{pick}
+use Rattle.octets.specs.Numbers.{number}
+use Rattle.octets.specs.Refusals.{noSuch}
+use Rattle.layouts.specs.Formats.{Answer, refused, got}
+use Rattle.layouts.specs.Categories.{Category, category}
+use Rattle.items.specs.Typed.{counterOf, versionOf}
+use Rattle.blocks.specs.Headers.{headerOf}
+use Rattle.blocks.specs.Records.{Rec}
+use Rattle.blocks.specs.Blocks.{Block, wrong, all, blockFrom, blockOf}
+use Rattle.blocks.specs.Offsets.{recordAt}
+use Rattle.blocks.specs.Walks.{answerOf, readFrom, readOf, listedReading, blockListed, readListed}
+use Rattle.blocks.specs.Steps.{itemsFrom, takenBy, takeBy, stepFrom, stepBy, entryFrom, entryBy, entryGroupOf, entryValues, stepOf, stepRefused, stepTaken, listedStep, stepListed, foundOf, entryOf, entryRefused, entryFound, listedEntry, entryListed}
+use Rattle.blocks.specs.declared.header.Head.{Head}
+use Rattle.blocks.specs.declared.header.Head.the-variants as head
+use Rattle.blocks.specs.declared.record.Record.{Record}
+use Rattle.blocks.specs.declared.cursor.Step.{Step}
+use Rattle.blocks.specs.declared.cursor.Found.{Found}
+use Rattle.blocks.proofs.HeaderLaws.{header-cases}
+use Rattle.blocks.proofs.WindowLaws.{records-at}
+
+-- Reading by offsets answers of the block's records, each read from the octets that are left.
+pub read-block : (s : List ℕ) → readOf s ≡ answerOf (number 2 s 1) (blockOf s)
+unfolding readOf blockOf
+read-block s =
+    let len = number 2 s 1 in
+    header-cases s (λ h. readFrom s h ≡ answerOf len (blockFrom s h)) (λ a. refl) (λ a b. refl) (λ a b d. refl) (λ a b d. refl)
+    (λ w. ap (answerOf len) (sym (records-at s len (w .fits) (category (getD s 0 0)) len 3)))
+
+-- the answer's cases are the block's
+listed-block : (len : ℕ) (b : Block) → listedReading (answerOf len b) ≡ blockListed len b
+listed-block len (wrong n at) = refl
+listed-block len (all cat rs) = refl
+
+pub read-listed : (s : List ℕ) → listedReading (readOf s) ≡ readListed s
+unfolding readListed
+read-listed s = rw (read-block s) (listed-block (number 2 s 1) (blockOf s))
+
+-- what is made of a step's answer is made of its refusal or of its typed record
+module _ {A B : Type 0} (f : A → B) {no : ℕ → ℕ → A} {yes : Record → ℕ → A} {no' : ℕ → ℕ → B} {yes' : Record → ℕ → B}
+    (of-no : (n at : ℕ) → f (no n at) ≡ no' n at) (of-yes : (t : Record) (q : ℕ) → f (yes t q) ≡ yes' t q) where
+  taken-made : (c : Category) (at p : ℕ) (m : Answer ℕ Rec) → f (takenBy no yes c at p m) ≡ takenBy no' yes' c at p m
+  taken-made c at p (refused n) = of-no n at
+  taken-made c at p (got r q) = of-yes _ q
+
+  take-made : (s : List ℕ) (len number at : ℕ) → f (takeBy no yes s len number at) ≡ takeBy no' yes' s len number at
+  unfolding takeBy
+  take-made s len number at =
+      taken-made (category number) at (itemsFrom s len (category number) at) (recordAt s len (category number) at)
+
+  from-made : (s : List ℕ) (start : ℕ) (h : Head) → f (stepFrom no yes s start h) ≡ stepFrom no' yes' s start h
+  from-made s start (head.Refused n) = of-no n 0
+  from-made s start (head.Good number len) = go (ltb start 3 || leb len start)
+    where
+      go : (b : Bool) → f (pick b (no noSuch 0) (takeBy no yes s len number start)) ≡ pick b (no' noSuch 0) (takeBy no' yes' s len number start)
+      go true = of-no noSuch 0
+      go false = take-made s len number start
+
+  pub step-made : (s : List ℕ) (start : ℕ) → f (stepBy no yes s start) ≡ stepBy no' yes' s start
+  unfolding stepBy
+  step-made s start = from-made s start (headerOf s)
+
+pub step-listed : (s : List ℕ) (start : ℕ) → listedStep (stepOf s start) ≡ stepListed s start
+unfolding stepOf stepListed
+step-listed = step-made listedStep (λ n at. refl) (λ t q. refl)
+
+-- of an entry its values, by either category
+found-listed : (cat : ℕ) (v : List ℕ) → listedEntry (foundOf cat v) ≡ entryFound v
+found-listed cat v = go (eqb cat 242)
+  where
+    go : (b : Bool) → listedEntry (pick b (Found.Version (versionOf v)) (Found.Counter (counterOf v))) ≡ entryFound v
+    go true = refl
+    go false = refl
+
+from-listed : (s : List ℕ) (cat at count k : ℕ)
+    → listedEntry (entryFrom Found.Refused foundOf s cat at count k) ≡ entryFrom entryRefused (λ cat v. entryFound v) s cat at count k
+from-listed s cat at count k = go (leb count k)
+  where
+    v : List ℕ
+    v = entryValues s (entryGroupOf cat) at k
+
+    go : (b : Bool) → listedEntry (pick b (Found.Refused noSuch 0) (foundOf cat v)) ≡ pick b (entryRefused noSuch 0) (entryFound v)
+    go true = refl
+    go false = found-listed cat v
+
+pub entry-listed : (s : List ℕ) (start k : ℕ) → listedEntry (entryOf s start k) ≡ entryListed s start k
+unfolding entryOf entryListed entryBy
+entry-listed s start k =
+    step-made listedEntry (λ n at. refl) (λ t q. from-listed s (t .category) (t .entries .at) (t .entries .count) k) s start

@@ -1,0 +1,211 @@
+-- Steps and entries: what the definitions say of the case that a branch of the code is in. Assumes nothing.
+use mathlib.Core.Path.{_≡_, refl, sym, _∙_}
+use mathlib.Core.Bool.{Bool, true, false, _||_}
+use mathlib.Core.List.{List}
+use Prim.Native.Nat.{ℕ, _+_, _*_, _-_, _<_, _≤_}
+use native.Mathlib.Omega.{arith}
+use borrow.Author.Tests.{lt-ltb, le-ltb, lt-leb, le-leb, eq-eqb, ne-eqb, ltb-false, leb-false}
+use lib.Dec.{leb, ltb}
+use lib.ListN.{length}
+use Rattle.octets.specs.Choice.{pick}
+use Rattle.octets.specs.Numbers.{Octets, number}
+use Rattle.octets.specs.Refusals.{noSuch, longSpecification}
+use Rattle.layouts.specs.Groups.{values}
+use Rattle.layouts.specs.Formats.{Answer, refused, got}
+use Rattle.layouts.specs.Ends.{chainEnd}
+use Rattle.layouts.specs.Tables.{counter, version}
+use Rattle.layouts.specs.Categories.{category, known}
+use Rattle.layouts.specs.declared.ends.End.{End}
+use Rattle.items.specs.Typed.{counterOf, versionOf}
+use Rattle.blocks.specs.Specification.{flags}
+use Rattle.blocks.specs.Marks.{marksOf, groupsOf}
+use Rattle.blocks.specs.Headers.{headerOf}
+use Rattle.blocks.specs.Records.{Rec}
+use Rattle.blocks.specs.Offsets.{specsAt, recordAt}
+use Rattle.blocks.specs.Walks.{onward, runOf}
+use Rattle.blocks.specs.Typed.{typedRec, typedOf}
+use Rattle.blocks.specs.Steps.{typedBehind, itemsFrom, takenBy, takeBy, stepFrom, stepBy, takeOf, stepOf, entryGroupOf, entryFrom, entryBy, foundOf, entryIn, entryOf}
+use Rattle.blocks.specs.declared.header.Head.{Head}
+use Rattle.blocks.specs.declared.header.Head.the-variants as head
+use Rattle.blocks.specs.declared.record.Record.{Record}
+use Rattle.blocks.specs.declared.walk.Walked.{Walked}
+use Rattle.blocks.specs.declared.cursor.Cursor.{Cursor}
+use Rattle.blocks.specs.declared.cursor.Step.{Step}
+use Rattle.blocks.specs.declared.cursor.Step.the-variants as step
+use Rattle.blocks.specs.declared.cursor.Found.{Found}
+use Rattle.blocks.proofs.HeaderLaws.{Headed, header-good}
+use Rattle.blocks.proofs.WalkSteps.{Table, table, Spec, spec-ended, run-one, run-none}
+use Rattle.blocks.proofs.ListedLaws.{step-made}
+use Rattle.blocks.proofs.TypedLaws.{typed-good, entries-within}
+
+-- The typed record behind a specification
+module _ (s : List ℕ) (len number at : ℕ) (k : known number ≡ true) (m : ℕ) (most : m ≡ category number .most) where
+  abbrev specification : Answer ℕ (List ℕ)
+  specification = specsAt s len (category number .most - 1) at
+
+  pub behind-refused : (w : ℕ) → End.Refused w ≡ chainEnd s len longSpecification 1 (m - 1) at
+      → (r : Record) → r ≡ typedOf s len number 0 at → r ≡ typedBehind s len number at specification
+  behind-refused w h r e = e ∙ rw (spec-ended s len (category number) at number (table number k) m most (End.Refused w) h)
+
+  pub behind-marked : (p : ℕ) → Spec s len (category number) at p → (marks : ℕ) → marks ≡ marksOf (flags (groupsOf (p - at) s at))
+      → (r : Record) → r ≡ typedOf s len number marks p → r ≡ typedBehind s len number at specification
+  behind-marked p sp marks is r e = e ∙ rw (sp .is, is, ← sp .marked .same)
+
+-- A record of a block
+walked-on : {q c n at : ℕ} → Walked.To q c ≡ Walked.Refused n at → ⊥
+walked-on h = let z : _≡_ {A = ℕ} 0 1 = cc in omega arith
+
+module _ (s : List ℕ) (len number at : ℕ) (more : at < len) where
+  abbrev one : Answer ℕ Rec → Walked
+  one a = onward s len (category number) at a (λ q. runOf s len (category number) 0 q (0 + 1))
+
+  is-one : (w : Walked) → w ≡ runOf s len (category number) 1 at 0 → w ≡ one (recordAt s len (category number) at)
+  is-one w e = e ∙ sym (run-one s len (category number) at 1 0 0 refl more)
+
+  pub take-refused : (n start : ℕ) → Walked.Refused n start ≡ runOf s len (category number) 1 at 0
+      → Step.Refused n start ≡ takeOf s len number at
+  unfolding takeOf takeBy
+  take-refused n start e = go (recordAt s len (category number) at) (is-one _ e)
+    where
+      go : (a : Answer ℕ Rec) → Walked.Refused n start ≡ one a
+          → Step.Refused n start ≡ takenBy Step.Refused (λ t q. Step.Taken t (record { at = q })) (category number) at (itemsFrom s len (category number) at) a
+      go (refused m) h = let a : n ≡ m = cc in let b : start ≡ at = cc in rw (a, b)
+      go (got r q) h = absurd (walked-on (run-none s len (category number) q 0 1 refl ∙ sym h))
+
+  module _ (o : Octets s) (fit : len ≤ length s) (k : known number ≡ true) where
+    pub take-taken : (q c : ℕ) → Walked.To q c ≡ runOf s len (category number) 1 at 0
+        → (t : Record) → t ≡ typedBehind s len number at (specsAt s len (category number .most - 1) at)
+        → Step.Taken t (record { at = q }) ≡ takeOf s len number at
+    unfolding takeOf takeBy
+    take-taken q c e t h = go (recordAt s len (category number) at) refl (is-one _ e)
+      where
+        go : (a : Answer ℕ Rec) → recordAt s len (category number) at ≡ a → Walked.To q c ≡ one a
+            → Step.Taken t (record { at = q }) ≡ takenBy Step.Refused (λ t q. Step.Taken t (record { at = q })) (category number) at (itemsFrom s len (category number) at) a
+        go (refused m) f g = absurd (walked-on g)
+        go (got r p) f g =
+            let same : Walked.To q c ≡ Walked.To p 1 = g ∙ sym (run-none s len (category number) p 0 1 refl) in
+            let a : q ≡ p = cc in
+            rw (a, h, typed-good s len number at o fit k r p f)
+
+-- A step
+module _ (s : List ℕ) (start : ℕ) where
+  pub step-refused : (n : ℕ) → Head.Refused n ≡ headerOf s → Step.Refused n 0 ≡ stepOf s start
+  unfolding stepOf stepBy
+  step-refused n h = rw (← h)
+
+  module _ (cat len : ℕ) (good : Head.Good cat len ≡ headerOf s) where
+    pub step-low : start < 3 → Step.Refused noSuch 0 ≡ stepOf s start
+    unfolding stepOf stepBy
+    step-low e = rw (← good, lt-ltb start 3 e)
+
+    pub step-past : 3 ≤ start → len ≤ start → Step.Refused noSuch 0 ≡ stepOf s start
+    unfolding stepOf stepBy
+    step-past l e = rw (← good, le-ltb start 3 l, le-leb len start e)
+
+    pub step-inside : 3 ≤ start → start < len → (r : Step) → r ≡ takeOf s len cat start → r ≡ stepOf s start
+    unfolding stepOf stepBy takeOf
+    step-inside l e r h = h ∙ rw (← good, le-ltb start 3 l, lt-leb len start e)
+
+not-taken : {n at : ℕ} {t : Record} {c : Cursor} → Step.Refused n at ≡ Step.Taken t c → ⊥
+not-taken h = let z : _≡_ {A = ℕ} 0 1 = cc in omega arith
+
+-- what a step that was taken says
+pub record Took (s : List ℕ) (start : ℕ) (t : Record) (next : ℕ) : Type 0 where
+  pub cat : ℕ
+  pub len : ℕ
+  pub head : headerOf s ≡ Head.Good cat len
+  pub low : 3 ≤ start
+  pub more : start < len
+  pub r : Rec
+  pub is : recordAt s len (category cat) start ≡ got r next
+  pub same : t ≡ typedRec (category cat) r (itemsFrom s len (category cat) start)
+
+pub step-took : (s : List ℕ) (start : ℕ) (t : Record) (c : Cursor) → stepOf s start ≡ Step.Taken t c → Took s start t (c .at)
+unfolding stepOf stepBy takeBy
+step-took s start t c = by-head (headerOf s) refl
+  where
+    no : ℕ → ℕ → Step
+    no = Step.Refused
+
+    yes : Record → ℕ → Step
+    yes = λ t q. Step.Taken t (record { at = q })
+
+    by-record : (cat len : ℕ) → headerOf s ≡ Head.Good cat len → 3 ≤ start → start < len
+        → (a : Answer ℕ Rec) → recordAt s len (category cat) start ≡ a
+        → takenBy no yes (category cat) start (itemsFrom s len (category cat) start) a ≡ Step.Taken t c → Took s start t (c .at)
+    by-record cat len e l m (refused n) f h = absurd (not-taken h)
+    by-record cat len e l m (got r q) f h = record {
+      cat = cat;
+      len = len;
+      head = e;
+      low = l;
+      more = m;
+      r = r;
+      is = f ∙ cc;
+      same = cc;
+    }
+
+    by-start : (cat len : ℕ) → headerOf s ≡ Head.Good cat len → (a b : Bool) → ltb start 3 ≡ a → leb len start ≡ b
+        → pick (a || b) (no noSuch 0) (takenBy no yes (category cat) start (itemsFrom s len (category cat) start) (recordAt s len (category cat) start)) ≡ Step.Taken t c
+        → Took s start t (c .at)
+    by-start cat len e true b f g h = absurd (not-taken h)
+    by-start cat len e false true f g h = absurd (not-taken h)
+    by-start cat len e false false f g h =
+        by-record cat len e (ltb-false start 3 f) (leb-false len start g) (recordAt s len (category cat) start) refl h
+
+    by-head : (h : Head) → headerOf s ≡ h → stepFrom no yes s start h ≡ Step.Taken t c → Took s start t (c .at)
+    by-head (head.Refused n) e h = absurd (not-taken h)
+    by-head (head.Good cat len) e h = by-start cat len e (ltb start 3) (leb len start) refl refl h
+
+-- An entry
+abbrev ofStep : {A : Type 0} → (ℕ → ℕ → A) → (Record → ℕ → A) → Step → A
+ofStep r k (step.Refused n at) = r n at
+ofStep r k (step.Taken t c) = k t (c .at)
+
+by-step : {A : Type 0} (r : ℕ → ℕ → A) (k : Record → ℕ → A) (s : List ℕ) (start : ℕ) → ofStep r k (stepOf s start) ≡ stepBy r k s start
+unfolding stepOf
+by-step r k = step-made (ofStep r k) (λ n at. refl) (λ t q. refl)
+
+module _ (s : List ℕ) (start k : ℕ) where
+  pub entry-refused : (n at : ℕ) → Step.Refused n at ≡ stepOf s start → Found.Refused n at ≡ entryOf s start k
+  unfolding entryOf entryBy
+  entry-refused n at h = rw (← h) at (by-step Found.Refused (λ t q. entryFrom Found.Refused foundOf s (t .category) (t .entries .at) (t .entries .count) k) s start)
+
+  pub entry-taken : (t : Record) (c : Cursor) → Step.Taken t c ≡ stepOf s start
+      → (r : Found) → r ≡ entryIn s (t .category) (t .entries .at) (t .entries .count) k → r ≡ entryOf s start k
+  unfolding entryOf entryBy entryIn
+  entry-taken t c h r e =
+      e ∙ rw (← h) at (by-step Found.Refused (λ t q. entryFrom Found.Refused foundOf s (t .category) (t .entries .at) (t .entries .count) k) s start)
+
+-- 17, or the entry of the record's category
+module _ (s : List ℕ) (cat at count k : ℕ) where
+  pub entry-none : count ≤ k → Found.Refused noSuch 0 ≡ entryIn s cat at count k
+  unfolding entryIn
+  entry-none h = rw (le-leb count k h)
+
+  pub entry-version : k < count → cat ≡ 242 → (n : ℕ) → n ≡ at + k * version .wide
+      → Found.Version (versionOf (values (version .parts) (number (version .wide) s n))) ≡ entryIn s cat at count k
+  unfolding entryIn
+  entry-version h e n is = rw (lt-leb count k h, eq-eqb cat 242 e, is)
+
+  pub entry-counter : k < count → (cat ≡ 242 → ⊥) → (n : ℕ) → n ≡ at + k * counter .wide
+      → Found.Counter (counterOf (values (counter .parts) (number (counter .wide) s n))) ≡ entryIn s cat at count k
+  unfolding entryIn
+  entry-counter h e n is = rw (lt-leb count k h, ne-eqb cat 242 e, is)
+
+-- an entry that the record has lies in the octets with the others
+module _ (cat at count k n : ℕ) (room : at + count * entryGroupOf cat .wide ≤ n) (has : k < count) where
+  pub version-room : cat ≡ 242 → at + k * 3 ≤ n
+  version-room e = omega (arith, rw (eq-eqb cat 242 e) at room)
+
+  pub counter-room : (cat ≡ 242 → ⊥) → at + k * 6 ≤ n
+  counter-room e = omega (arith, rw (ne-eqb cat 242 e) at room)
+
+-- the entries of a record that was taken lie in the octets
+pub entries-room : (s : List ℕ) (start : ℕ) (t : Record) (c : Cursor) → Octets s → Step.Taken t c ≡ stepOf s start
+    → t .entries .at + t .entries .count * entryGroupOf (t .category) .wide ≤ length s
+entries-room s start t c o h =
+    let w = step-took s start t c (sym h) in
+    let g = header-good s (w .cat) (w .len) (w .head) in
+    let l = entries-within s (w .len) (w .cat) start o (g .fits) (g .known) (w .r) (c .at) (w .is) t (w .same) in
+    (let f = g .fits in omega arith)
