@@ -13,6 +13,7 @@ pub mod ListedLaws
 pub mod ItemStarts
 pub mod TypedLaws
 pub mod StepLaws
+pub mod SameAnswers
 pub mod AtEnd
 pub mod RecordStarts
 pub mod Examples

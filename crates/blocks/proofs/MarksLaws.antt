@@ -61,10 +61,10 @@ flags-marks (b ∷ bs) n =
     rw (suc-add (length bs) n, f .0, f .1, flags-marks bs n)
 
 -- the marks of at most four octets, as a number and back
-pub flags-28 : (gs : List ℕ) → length gs ≤ 4 → flagsOf 28 (marksOf (flags gs)) ≡ flags gs ++ replicate (28 - 7 * length gs) false
-flags-28 gs h =
-    let all : length (flags gs) + (28 - 7 * length gs) ≡ 28 = omega (arith, flags-long gs) in
-    rw all at (flags-marks (flags gs) (28 - 7 * length gs))
+pub flags-32 : (gs : List ℕ) → length gs ≤ 4 → flagsOf 32 (marksOf (flags gs)) ≡ flags gs ++ replicate (32 - 7 * length gs) false
+flags-32 gs h =
+    let all : length (flags gs) + (32 - 7 * length gs) ≡ 32 = omega (arith, flags-long gs) in
+    rw all at (flags-marks (flags gs) (32 - 7 * length gs))
 
 -- fields that are not marked behind the last change nothing
 pub formats-more : (bs : List Bool) (n : ℕ) (fs : List Form) → length fs ≤ length bs → formats (bs ++ replicate n false) fs ≡ formats bs fs

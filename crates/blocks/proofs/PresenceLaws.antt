@@ -28,16 +28,16 @@ reorder false b c d x y = and-false b
 module _ (t m : ℕ) where
   -- category 65: its mandatory items, and those of the type
   pub rows-65 : (n : ℕ) → n ≡ 65
-      → meets (rowsOf n) t (flagsOf 28 m) ≡ (hasAll 32 (fieldMarks (category n .mandatory)) m && meets rowsByType t (flagsOf 28 m))
+      → meets (rowsOf n) t (flagsOf 32 m) ≡ (hasAll 32 (fieldMarks (category n .mandatory)) m && meets rowsByType t (flagsOf 32 m))
   unfolding meets flagsOf hasAll
   rows-65 n e =
-      let bs = flagsOf 28 m in
+      let bs = flagsOf 32 m in
       rw (e, any-type (eqb t 1) (eqb t 2) M)
       (reorder (odd m) (odd (m / 2)) (odd (m / 2 / 2)) (odd (m / 2 / 2 / 2)) (met (row 5 X M X .need t) (getD bs 4 false))
       (meets (row 6 M X X ∷ row 7 X X M ∷ []) t bs))
 
   other : (n : ℕ) (a b : Bool)
-      → meets (pick a rows23 (pick b rows242 [])) t (flagsOf 28 m)
+      → meets (pick a rows23 (pick b rows242 [])) t (flagsOf 32 m)
       ≡ hasAll 32 (fieldMarks (pick a cat23 (pick b cat242 (record { number = n; most = 0; fields = []; mandatory = [] })) .mandatory)) m
   unfolding meets flagsOf hasAll
   other n true b = refl
@@ -45,5 +45,5 @@ module _ (t m : ℕ) where
   other n false false = refl
 
   -- the others: their mandatory items
-  pub rows-other : (n : ℕ) → (n ≡ 65 → ⊥) → meets (rowsOf n) t (flagsOf 28 m) ≡ hasAll 32 (fieldMarks (category n .mandatory)) m
+  pub rows-other : (n : ℕ) → (n ≡ 65 → ⊥) → meets (rowsOf n) t (flagsOf 32 m) ≡ hasAll 32 (fieldMarks (category n .mandatory)) m
   rows-other n h = rw (ne-eqb n 65 h) (other n (eqb n 23) (eqb n 242))

@@ -158,11 +158,11 @@ step-took s start t c = by-head (headerOf s) refl
     by-head (head.Good cat len) e h = by-start cat len e (ltb start 3) (leb len start) refl refl h
 
 -- An entry
-abbrev ofStep : {A : Type 0} → (ℕ → ℕ → A) → (Record → ℕ → A) → Step → A
+abbrev pub ofStep : {A : Type 0} → (ℕ → ℕ → A) → (Record → ℕ → A) → Step → A
 ofStep r k (step.Refused n at) = r n at
 ofStep r k (step.Taken t c) = k t (c .at)
 
-by-step : {A : Type 0} (r : ℕ → ℕ → A) (k : Record → ℕ → A) (s : List ℕ) (start : ℕ) → ofStep r k (stepOf s start) ≡ stepBy r k s start
+pub by-step : {A : Type 0} (r : ℕ → ℕ → A) (k : Record → ℕ → A) (s : List ℕ) (start : ℕ) → ofStep r k (stepOf s start) ≡ stepBy r k s start
 unfolding stepOf
 by-step r k = step-made (ofStep r k) (λ n at. refl) (λ t q. refl)
 

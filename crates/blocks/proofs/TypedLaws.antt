@@ -3,18 +3,18 @@ use mathlib.Core.Path.{_≡_, refl, sym, ap, _∙_, subst}
 use mathlib.Core.Bool.{Bool, true, false}
 use mathlib.Core.List.{List, [], _∷_}
 use Prim.Native.Nat.{ℕ, zero, suc, _+_, _*_, _-_, _<_, _≤_}
-use native.Mathlib.Nat.{zero-add, add-zero, zero-mul, div-one}
+use native.Mathlib.Nat.{zero-add, add-zero, zero-mul, suc-mul, div-one}
 use native.Mathlib.Omega.{arith}
 use borrow.Author.Tests.{eqb-true, lt-leb}
-use lib.Dec.{eqb, eqb·suc-zero}
+use lib.Dec.{leb, eqb, eqb·suc-zero}
 use lib.ListN.{length, getD}
 use Rattle.octets.specs.Choice.{pick}
 use Rattle.octets.specs.Numbers.{Octets, number}
-use Rattle.octets.specs.Refusals.{presenceBroken}
+use Rattle.octets.specs.Refusals.{noCount, presenceBroken}
 use Rattle.layouts.specs.Groups.{values, Group}
-use Rattle.layouts.specs.Formats.{got, Format, done, Trace}
+use Rattle.layouts.specs.Formats.{got, Format, done, stop, Trace}
 use Rattle.layouts.specs.Offsets.{runAt, traceAt}
-use Rattle.layouts.specs.Layouts.{octet, counted, format, kindOf}
+use Rattle.layouts.specs.Layouts.{octet, times, counted, format, kindOf}
 use Rattle.layouts.specs.Ends.{kindEnd, endOf}
 use Rattle.layouts.specs.Tables.{counter, version, layout}
 use Rattle.layouts.specs.Categories.{Category, known, category, layoutAt}
@@ -32,10 +32,10 @@ use Rattle.blocks.specs.Marks.{marksOf}
 use Rattle.blocks.specs.Records.{Rec, formats, layoutOf, marksRefusal, present, putItems}
 use Rattle.blocks.specs.Offsets.{specsAt, itemsAt, recordAt}
 use Rattle.blocks.specs.Typed.{typed, turn, further, fieldFor, placeIn, valuesFor, startFor, typedRec, endFrom, marked, behind, startOf, startBy, typedOf}
-use Rattle.blocks.specs.Steps.{itemsFrom, typedBehind, entryGroupOf}
+use Rattle.blocks.specs.Steps.{itemsFrom, typedBehind, entryGroupOf, entryValues}
 use Rattle.blocks.specs.declared.record.Record.{Record}
 use Rattle.blocks.proofs.AtEnd.{end-value, end-place}
-use Rattle.blocks.proofs.MarksLaws.{flags-28, flags-long, mark-more, specs-marked}
+use Rattle.blocks.proofs.MarksLaws.{flags-32, flags-long, mark-more, specs-marked}
 use Rattle.blocks.proofs.WalkSteps.{item-run, table}
 use Rattle.blocks.proofs.ItemStarts.{startIn, items-there}
 
@@ -98,12 +98,38 @@ module _ (s : List ℕ) (len : ℕ) where
       rw (z, lt-leb (length s) from l, run-trace s len f from tr q h, is, add-zero, div-one, zero-add)
   held-place f e g start tr from is (none z n) d = rw (z, n) (end-place s d)
 
+  times-entry : (m : ℕ) (g : Group) (at n : ℕ) → n < m → getD (traceAt (times m g) s at) n [] ≡ values (g .parts) (number (g .wide) s (at + n * g .wide))
+  unfolding traceAt times
+  times-entry zero g at n l = absurd (omega arith)
+  times-entry (suc m) g at zero l = rw (zero-mul, add-zero)
+  times-entry (suc m) g at (suc n) l =
+      times-entry m g (at + g .wide) n (omega arith) ∙ rw (suc-mul n (g .wide)) (ap (λ (x : ℕ). values (g .parts) (number (g .wide) s x)) (omega arith))
+
   -- entries that were read lie within the block
   held-within : len ≤ length s → (f : Format) (g : Group) (start : ℕ) (tr : Trace) (from : ℕ) → f ≡ counted 0 g → Held s len f start tr from
       → placeIn from 0 tr .at + placeIn from 0 tr .count * g .wide ≤ len
   held-within fit f g start [] from is w = omega (arith, zero-mul (g .wide))
   held-within fit f g start (v ∷ tr) from is (here q z l h) = counted-read s len fit 0 g from (v ∷ tr) q (rw is at h) .1
   held-within fit f g start (v ∷ tr) from is (none z n) = absurd (let z : _≡_ {A = ℕ} 0 1 = cc in omega arith)
+
+  -- behind a count stand so many groups
+  counted-trace : (g : Group) (from : ℕ) (v : List ℕ) (tr : Trace) → v ∷ tr ≡ traceAt (counted 0 g) s from
+      → tr ≡ traceAt (pick (leb (getD v 0 0) 0) (stop noCount) (times (getD v 0 0 - 0) g)) s (from + 1)
+  unfolding traceAt counted
+  counted-trace g from v tr e =
+      let same : v ≡ values (octet .parts) (number 1 s from) = cc in
+      rw same cc
+
+  -- entry n of those that were read is group n behind the count
+  held-entry : len ≤ length s → (f : Format) (g : Group) (start : ℕ) (tr : Trace) (from : ℕ) → f ≡ counted 0 g → Held s len f start tr from
+      → (n : ℕ) → n < placeIn from 0 tr .count
+      → values (g .parts) (number (g .wide) s (placeIn from 0 tr .at + n * g .wide)) ≡ getD tr (suc n) []
+  held-entry fit f g start [] from is w n l = absurd (omega arith)
+  held-entry fit f g start (v ∷ tr) from is (none z e) n l = absurd (let z : _≡_ {A = ℕ} 0 1 = cc in omega arith)
+  held-entry fit f g start (v ∷ tr) from is (here q z i h) n l =
+      let some = counted-read s len fit 0 g from (v ∷ tr) q (rw is at h) .0 in
+      let e = counted-trace g from v tr (run-trace s len (counted 0 g) from (v ∷ tr) q (rw is at h)) in
+      rw (e, lt-leb (getD v 0 0) 0 some) (sym (times-entry (getD v 0 0 - 0) g (from + 1) n l))
 
 -- a marked field's format is that of its form
 formats-at : (bs : List Bool) (fs : List Form) → length bs ≤ length fs → (n : ℕ)
@@ -129,7 +155,7 @@ module _ (s : List ℕ) (len : ℕ) (c : Category) (gs : List ℕ) (p : ℕ) (tr
   mark-is : (n : ℕ) → marked s len c marks p (suc n) ≡ getD (flags gs) n false
   mark-is n =
       let e : suc n - 1 ≡ n = omega arith in
-      rw (e, flags-28 gs few) (mark-more (flags gs) (28 - 7 * length gs) n)
+      rw (e, flags-32 gs few) (mark-more (flags gs) (32 - 7 * length gs) n)
 
   -- an item was read from its start to the next one's
   there : (n : ℕ) → runAt s len (getD (layoutOf c gs) n done) (start n) ≡ got (getD trs n []) (start (suc n))
@@ -268,3 +294,19 @@ module _ (s : List ℕ) (len number at : ℕ) (o : Octets s) (fit : len ≤ leng
       (held-within s len fit (format (layout entries)) (entryGroupOf (c .number))
       (startBy s c (startOf s len c (marksOf (flags (r .marks))) (w .behind)) entries) (valuesFor c r (w .behind) entries) (startFor c r (w .behind) entries)
       (entries-counted (eqb (c .number) 242)) (w .items entries))
+
+  -- Entry n of a record that was read is the one that its item's values have.
+  pub entry-values : (r : Rec) (q : ℕ) → recordAt s len (category number) at ≡ got r q
+      → (t : Record) → t ≡ typedRec (category number) r (itemsFrom s len (category number) at) → (n : ℕ) → n < t .entries .count
+      → entryValues s (entryGroupOf (t .category)) (t .entries .at) n
+      ≡ getD (valuesFor (category number) r (itemsFrom s len (category number) at) (pick (eqb (category number .number) 242) Form.Versions Form.Statistics)) (suc n) []
+  unfolding typedRec
+  entry-values r q h t is n l =
+      let c = category number in
+      let w = taken r q h in
+      let entries = pick (eqb (c .number) 242) Form.Versions Form.Statistics in
+      let l' : n < placeIn (startFor c r (w .behind) entries) 0 (valuesFor c r (w .behind) entries) .count = rw (is, w .spec) at l in
+      rw (is, w .spec)
+      (held-entry s len fit (format (layout entries)) (entryGroupOf (c .number))
+      (startBy s c (startOf s len c (marksOf (flags (r .marks))) (w .behind)) entries) (valuesFor c r (w .behind) entries) (startFor c r (w .behind) entries)
+      (entries-counted (eqb (c .number) 242)) (w .items entries) n l')

@@ -32,7 +32,7 @@ use Rattle.blocks.specs.Records.{Rec, formats, marksSpare, layoutOf, mar
 use Rattle.blocks.specs.Offsets.{specsAt, itemsAt, recordAt}
 use Rattle.blocks.specs.Walks.{onward, runOf, typeFrom, afterItems, restOf}
 use Rattle.blocks.specs.declared.walk.Walked.{Walked}
-use Rattle.blocks.proofs.MarksLaws.{flags-28, formats-more, spare-more, meets-more, flags-long, Marked, specs-marked, spec-end}
+use Rattle.blocks.proofs.MarksLaws.{flags-32, formats-more, spare-more, meets-more, flags-long, Marked, specs-marked, spec-end}
 
 -- what holds of the three categories holds of every one that is read
 by-known : (P : ℕ → Type 0) → P 23 → P 65 → P 242 → (n : ℕ) → known n ≡ true → P n
@@ -113,7 +113,7 @@ none-left (b ∷ bs) = refl
 -- The rest of a record from a field on
 module _ (s : List ℕ) (len n : ℕ) (c : Category) (t : Table n c) (marks start budget count : ℕ) where
   abbrev bs : List Bool
-  bs = flagsOf 28 marks
+  bs = flagsOf 32 marks
 
   abbrev rest : ℕ → ℕ → ℕ → Walked
   rest field at kind = restOf s len c bs field at kind start budget count
@@ -259,16 +259,16 @@ module _ (s : List ℕ) (len : ℕ) (c : Category) (at : ℕ) where
 
   module _ (n : ℕ) (t : Table n c) (p : ℕ) (sp : Spec p) (budget count : ℕ) (more : at < len) (some : budget ≡ suc (budget - 1))
       (marks : ℕ) (is : marks ≡ marksOf (flags (groupsOf (p - at) s at)))
-      (w : ℕ) (judged : w ≡ pick (eqb marks 0) noneMarked (pick (marksSpare (flagsOf 28 marks) (c .fields)) spareMarked 0)) where
+      (w : ℕ) (judged : w ≡ pick (eqb marks 0) noneMarked (pick (marksSpare (flagsOf 32 marks) (c .fields)) spareMarked 0)) where
     abbrev gs : List ℕ
     gs = sp .gs
 
     -- the fields behind those of the specification
     abbrev others : ℕ
-    others = 28 - 7 * length gs
+    others = 32 - 7 * length gs
 
-    same-flags : flagsOf 28 marks ≡ flags gs ++ replicate others false
-    same-flags = rw (is, ← sp .marked .same) (flags-28 gs (omega arith))
+    same-flags : flagsOf 32 marks ≡ flags gs ++ replicate others false
+    same-flags = rw (is, ← sp .marked .same) (flags-32 gs (omega arith))
 
     same-refusal : w ≡ marksRefusal c gs
     unfolding marksRefusal
@@ -278,7 +278,7 @@ module _ (s : List ℕ) (len : ℕ) (c : Category) (at : ℕ) where
     unfolding recordAt
     record-unmarked h = rw (sp .is, ← same-refusal, ne-eqb w 0 h) at (run-one s len c at budget count (budget - 1) some more)
 
-    pub record-items : w ≡ 0 → (r : Walked) → r ≡ restOf s len c (flagsOf 28 marks) 1 p 0 at (budget - 1) count
+    pub record-items : w ≡ 0 → (r : Walked) → r ≡ restOf s len c (flagsOf 32 marks) 1 p 0 at (budget - 1) count
         → r ≡ runOf s len c budget at count
     unfolding recordAt restOf layoutOf present
     record-items h r e =

@@ -1,13 +1,13 @@
 -- Octets of a record that differ only in the spare bits of its items.
 use mathlib.Core.Path.{_≡_}
 use mathlib.Core.List.{List, [], _∷_}
-use Prim.Native.Nat.{ℕ, _-_}
+use Prim.Native.Nat.{ℕ, zero, suc, _-_}
 use Rattle.layouts.specs.Formats.{Answer, refused, got, Format}
 use Rattle.layouts.specs.Alike.{Alike, AlikeAt}
 use Rattle.layouts.specs.Offsets.{itemAt}
 use Rattle.layouts.specs.Categories.{Category}
 use Rattle.blocks.specs.Records.{layoutOf}
-use Rattle.blocks.specs.Offsets.{specsAt}
+use Rattle.blocks.specs.Offsets.{specsAt, recordAt}
 
 -- item by item, and the same octets behind the last
 abbrev pub AllAlike : List Format → List ℕ → List ℕ → Type 0
@@ -30,3 +30,8 @@ module _ (s t : List ℕ) (len : ℕ) where
   RecordAlikeAt c at =
       (specsAt s len (c .most - 1) at ≡ specsAt t len (c .most - 1) at)
       × IfGot (specsAt s len (c .most - 1) at) (λ gs p. AllAlikeAt (layoutOf c gs) p)
+
+  -- record after record, at most n of them
+  abbrev pub RecordsAlikeAt : Category → ℕ → ℕ → Type 0
+  RecordsAlikeAt c zero at = Unit {0}
+  RecordsAlikeAt c (suc n) at = RecordAlikeAt c at × IfGot (recordAt s len c at) (λ r q. RecordsAlikeAt c n q)

@@ -49,4 +49,4 @@ valuesOf s t (b ∷ bs) (f ∷ fs) = pick b (traceOf s (itemIn t f)) [] ∷ valu
 unfoldable pub recOf : List ℕ → Record → Rec
 recOf s t =
     let c = category (t .category) in
-    record { marks = sevens (c .most) (t .marks); items = valuesOf s t (flagsOf 28 (t .marks)) (c .fields) }
+    record { marks = sevens (c .most) (t .marks); items = valuesOf s t (flagsOf 32 (t .marks)) (c .fields) }

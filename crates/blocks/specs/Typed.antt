@@ -109,7 +109,7 @@ endFrom at (Refused n) = at
 
 module _ (s : List ℕ) (len : ℕ) (c : Category) (marks at : ℕ) where
   abbrev pub marked : ℕ → Bool
-  marked f = getD (flagsOf 28 marks) (f - 1) false
+  marked f = getD (flagsOf 32 marks) (f - 1) false
 
   -- where the items of the first n fields end
   unfoldable pub behind : ℕ → ℕ

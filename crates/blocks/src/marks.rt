@@ -44,8 +44,8 @@ pub fn marks_at(s: &[u8], at: usize, n: usize) -> u32
 
 // Whether a field is marked.
 pub fn is_marked(marks: u32, field: usize) -> bool
-    requires { ⌜ (1 ≤ field) × (field ≤ 28) ⌝ }
-    ensures { λ r. ⌜ r ≡ getD (flagsOf 28 marks) (field - 1) false ⌝ }
+    requires { ⌜ (1 ≤ field) × (field ≤ 32) ⌝ }
+    ensures { λ r. ⌜ r ≡ getD (flagsOf 32 marks) (field - 1) false ⌝ }
 {
     (marks >> (field - 1)) % 2 == 1
 }
@@ -65,11 +65,11 @@ fn is_spare(kind: Kind) -> bool
 
 // Whether a field is marked that is spare, or past the category's last.
 fn marks_spare(number: u8, marks: u32) -> bool
-    ensures { λ r. ⌜ r ≡ marksSpare (flagsOf 28 marks) (category number .fields) ⌝ }
+    ensures { λ r. ⌜ r ≡ marksSpare (flagsOf 32 marks) (category number .fields) ⌝ }
 {
     let mut left = marks;
     let mut f: usize = 0;
-    while f < 28 {
+    while f < 32 {
         if left == 0 {
             return false;
         }
@@ -88,7 +88,7 @@ fn marks_spare(number: u8, marks: u32) -> bool
 
 // 6 for no mark, 5 for one of a spare field or one past the category's last.
 pub fn marks_refusal(number: u8, marks: u32) -> u8
-    ensures { λ r. ⌜ r ≡ pick (eqb marks 0) noneMarked (pick (marksSpare (flagsOf 28 marks) (category number .fields)) spareMarked 0) ⌝ }
+    ensures { λ r. ⌜ r ≡ pick (eqb marks 0) noneMarked (pick (marksSpare (flagsOf 32 marks) (category number .fields)) spareMarked 0) ⌝ }
 {
     if marks == 0 {
         return refusal::NONE_MARKED;

@@ -24,7 +24,7 @@ fn has_all(mandatory: u32, marks: u32) -> bool
 
 // Of category 65: 040 exactly in type 1, 020 exactly in type 2, 050 exactly in the third.
 fn has_of_type(kind: u8, marks: u32) -> bool
-    ensures { λ r. ⌜ r ≡ meets rowsByType kind (flagsOf 28 marks) ⌝ }
+    ensures { λ r. ⌜ r ≡ meets rowsByType kind (flagsOf 32 marks) ⌝ }
 {
     let batch = is_marked(marks, 5);
     let sdps = is_marked(marks, 6);
@@ -38,7 +38,7 @@ fn has_of_type(kind: u8, marks: u32) -> bool
 
 // Whether a record of a type has the items that it must have, and none that it must not.
 pub fn is_present(number: u8, kind: u8, marks: u32) -> bool
-    ensures { λ r. ⌜ r ≡ meets (rowsOf number) kind (flagsOf 28 marks) ⌝ }
+    ensures { λ r. ⌜ r ≡ meets (rowsOf number) kind (flagsOf 32 marks) ⌝ }
 {
     let all = has_all(mandatory_of(number), marks);
     if number == Cat65::NUMBER {

@@ -98,7 +98,7 @@ fn item_walk(
     count: usize,
 ) -> Walked
     requires { ⌜ (at ≤ len) × (len ≤ length (now s)) × (known number ≡ true) × (count < at) × (1 ≤ field) × (field ≤ 29) ⌝ }
-    ensures { λ r. ⌜ r ≡ restOf (now (s .entry)) len (category number) (flagsOf 28 marks) field at kind start budget count ⌝ }
+    ensures { λ r. ⌜ r ≡ restOf (now (s .entry)) len (category number) (flagsOf 32 marks) field at kind start budget count ⌝ }
 {
     if last_field(number) < field {
         if is_present(number, kind, marks) {

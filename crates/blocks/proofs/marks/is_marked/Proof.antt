@@ -9,4 +9,4 @@ use Rattle.blocks.proofs.marks.is_marked.Tie as tie
 pub is-marked-spec : {M : Type 1} → statement M
 is-marked-spec =
     tie.close
-    (tie.spec (λ c. search needs) (λ c. search needs) (λ c. search needs) (λ c. sym (flags-at 28 _ _ (omega arith))))
+    (tie.spec (λ c. search needs) (λ c. search needs) (λ c. search needs) (λ c. sym (flags-at 32 _ _ (omega arith))))

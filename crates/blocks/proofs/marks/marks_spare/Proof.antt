@@ -41,17 +41,17 @@ first n k (f ∷ fs) = rw (by-kind (layout f))
 
 -- the fields behind so many, with the marks left
 abbrev behind : Category → ℕ → ℕ → Bool
-behind c f k = marksSpare (flagsOf (28 - f) k) (drop f (c .fields))
+behind c f k = marksSpare (flagsOf (32 - f) k) (drop f (c .fields))
 
 no-mark-left : (c : Category) (f : ℕ) → behind c f 0 ≡ false
 unfolding marksSpare
-no-mark-left c f = rw (no-flags (28 - f)) (spare-more [] (28 - f) (drop f (c .fields)))
+no-mark-left c f = rw (no-flags (32 - f)) (spare-more [] (32 - f) (drop f (c .fields)))
 
-module _ (c : Category) (f k : ℕ) (inside : f < 28) where
+module _ (c : Category) (f k : ℕ) (inside : f < 32) where
   step : behind c f k ≡ ((odd k && isSpare (fieldAt c (f + 1) .1)) || behind c (f + 1) (k / 2))
   step =
-      let one : 28 - f ≡ suc (28 - (f + 1)) = omega arith in
-      rw (one, first (28 - (f + 1)) k (drop f (c .fields)), getD-drop, add-zero, drop-drop, add-one)
+      let one : 32 - f ≡ suc (32 - (f + 1)) = omega arith in
+      rw (one, first (32 - (f + 1)) k (drop f (c .fields)), getD-drop, add-zero, drop-drop, add-one)
 
   unmarked : (k % 2 ≡ 1 → ⊥) → behind c f k ≡ behind c (f + 1) (k / 2)
   unmarked h = step ∙ rw (ne-eqb (k % 2) 1 h)
@@ -63,10 +63,10 @@ module _ (c : Category) (f k : ℕ) (inside : f < 28) where
 
 abbrev Inv-loop : tie.InvT-loop
 Inv-loop number marks left₀ f₀ left f =
-    (f ≤ 28) × (marksSpare (flagsOf 28 marks) (category number .fields) ≡ behind (category number) f left)
+    (f ≤ 32) × (marksSpare (flagsOf 32 marks) (category number .fields) ≡ behind (category number) f left)
 
 abbrev μ-loop : tie.MeasureT-loop
-μ-loop number marks left₀ f₀ left f = 28 - f
+μ-loop number marks left₀ f₀ left f = 32 - f
 
 loop-holds : tie.Need-loop-holds Inv-loop μ-loop
 loop-holds c = (search needs, refl)
@@ -116,7 +116,7 @@ returns-3 : tie.Need-returns-3 Inv-loop μ-loop
 unfolding marksSpare flagsOf
 returns-3 c =
     let l = c .before .loop in
-    let e : 28 - l .f ≡ 0 = omega arith in
+    let e : 32 - l .f ≡ 0 = omega arith in
     sym (l .inv .1 ∙ rw e)
 
 pub marks-spare-spec : {M : Type 1} → statement M

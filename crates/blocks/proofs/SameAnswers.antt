@@ -1,0 +1,169 @@
+-- Octets after LEN change no answer, and neither do spare bits: of reading, of a step, of an entry, refusals too. Assumes nothing.
+use mathlib.Core.Path.{_≡_, refl, sym, ap, _∙_}
+use mathlib.Core.Bool.{Bool, true, false, _||_}
+use mathlib.Core.List.{List}
+use Prim.Native.Nat.{ℕ, zero, suc, _-_, _<_, _≤_}
+use native.Mathlib.Omega.{arith}
+use borrow.Author.Tests.{le-ltb, leb-false}
+use lib.Dec.{leb, ltb, eqb}
+use lib.ListN.{length, getD}
+use Rattle.octets.specs.Choice.{pick}
+use Rattle.octets.specs.Numbers.{Octets, number}
+use Rattle.octets.specs.Refusals.{noSuch}
+use Rattle.layouts.specs.Formats.{Answer, refused, got}
+use Rattle.layouts.specs.Categories.{Category, category}
+use Rattle.layouts.proofs.Before.{SameBefore}
+use Rattle.blocks.specs.Headers.{headerOf}
+use Rattle.blocks.specs.Records.{Rec}
+use Rattle.blocks.specs.Blocks.{Block, with}
+use Rattle.blocks.specs.Offsets.{recordAt, firstAt, recordsAt}
+use Rattle.blocks.specs.Walks.{answerOf, readFrom, readOf}
+use Rattle.blocks.specs.Steps.{itemsFrom, stopOf, takeBy, stepFrom, stepBy, stepOf, entryValues, entryGroupOf, entryFrom, foundOf, entryBy, entryOf}
+use Rattle.blocks.specs.Alike.{IfGot, RecordAlikeAt, RecordsAlikeAt}
+use Rattle.blocks.specs.declared.header.Head.{Head}
+use Rattle.blocks.specs.declared.header.Head.the-variants as head
+use Rattle.blocks.specs.declared.record.Record.{Record}
+use Rattle.blocks.specs.declared.cursor.Step.{Step}
+use Rattle.blocks.specs.declared.cursor.Step.the-variants as step
+use Rattle.blocks.specs.declared.cursor.Found.{Found}
+use Rattle.blocks.proofs.HeaderLaws.{Headed, header-good}
+use Rattle.blocks.proofs.BeforeLaws.{specs-before, record-before, records-before}
+use Rattle.blocks.proofs.AlikeLaws.{record-alike-at}
+use Rattle.blocks.proofs.TypedLaws.{entry-values}
+use Rattle.blocks.proofs.StepLaws.{Took, step-took, ofStep, by-step}
+
+-- Octets with the same header and the same record at a start get the same step and the same entries
+
+module _ (s t : List ℕ) (start : ℕ) where
+  pub record SameRecord : Type 0 where
+    pub head : headerOf s ≡ headerOf t
+    pub is : (cat len : ℕ) → headerOf s ≡ Head.Good cat len → recordAt s len (category cat) start ≡ recordAt t len (category cat) start
+    pub from : (cat len : ℕ) → headerOf s ≡ Head.Good cat len → itemsFrom s len (category cat) start ≡ itemsFrom t len (category cat) start
+
+  module _ (same : SameRecord) where
+    pub same-step : stepOf s start ≡ stepOf t start
+    unfolding stepOf stepBy takeBy
+    same-step = go (headerOf s) refl ∙ ap (stepFrom Step.Refused (λ r q. Step.Taken r (record { at = q })) t start) (same .head)
+      where
+        go : (h : Head) → headerOf s ≡ h
+            → stepFrom Step.Refused (λ r q. Step.Taken r (record { at = q })) s start h
+            ≡ stepFrom Step.Refused (λ r q. Step.Taken r (record { at = q })) t start h
+        go (head.Refused n) e = refl
+        go (head.Good cat len) e = rw (same .is cat len e, same .from cat len e)
+
+    module _ (o : Octets s) (o' : Octets t) (k : ℕ) where
+      -- an entry is what the record's values have
+      entries-same : (x : Record) (q : ℕ) → Took s start x q → k < x .entries .count
+          → entryValues s (entryGroupOf (x .category)) (x .entries .at) k ≡ entryValues t (entryGroupOf (x .category)) (x .entries .at) k
+      entries-same x q w l =
+          let g = header-good s (w .cat) (w .len) (w .head) in
+          let g' = header-good t (w .cat) (w .len) (sym (same .head) ∙ w .head) in
+          let a = entry-values s (w .len) (w .cat) start o (g .fits) (g .known) (w .r) q (w .is) x (w .same) k l in
+          let b = entry-values t (w .len) (w .cat) start o' (g' .fits) (g' .known) (w .r) q
+              (sym (same .is (w .cat) (w .len) (w .head)) ∙ w .is) x (rw (← same .from (w .cat) (w .len) (w .head)) (w .same)) k l in
+          a ∙ sym b
+
+      abbrev found : List ℕ → Record → Found
+      found u x = entryFrom Found.Refused foundOf u (x .category) (x .entries .at) (x .entries .count) k
+
+      found-same : (x : Record) (q : ℕ) → Took s start x q → found s x ≡ found t x
+      found-same x q w = go (leb (x .entries .count) k) refl
+        where
+          go : (b : Bool) → leb (x .entries .count) k ≡ b → found s x ≡ found t x
+          go true e = rw e
+          go false e = rw (e, entries-same x q w (leb-false (x .entries .count) k e))
+
+      pub same-entry : entryOf s start k ≡ entryOf t start k
+      unfolding entryOf entryBy
+      same-entry =
+          sym (by-step Found.Refused (λ x q. found s x) s start)
+          ∙ go (stepOf s start) refl
+          ∙ ap (ofStep Found.Refused (λ x q. found t x)) same-step
+          ∙ by-step Found.Refused (λ x q. found t x) t start
+        where
+          go : (r : Step) → stepOf s start ≡ r → ofStep Found.Refused (λ x q. found s x) r ≡ ofStep Found.Refused (λ x q. found t x) r
+          go (step.Refused n at) e = refl
+          go (step.Taken x c) e = found-same x (c .at) (step-took s start x c e)
+
+-- Both have a header and LEN octets, and the header is the same
+module _ (s t : List ℕ) (first : (i : ℕ) → i < 3 → getD s i 0 ≡ getD t i 0)
+    (long : 3 ≤ length s) (long' : 3 ≤ length t) (fits : number 2 s 1 ≤ length s) (fits' : number 2 s 1 ≤ length t) where
+  same-len : number 2 s 1 ≡ number 2 t 1
+  unfolding number
+  same-len = rw (first 1 (omega arith), first 2 (omega arith))
+
+  pub same-header : headerOf s ≡ headerOf t
+  unfolding headerOf
+  same-header =
+      rw (
+        le-ltb (length s) 3 long,
+        le-ltb (length t) 3 long',
+        ← first 0 (omega arith),
+        ← same-len,
+        le-ltb (length s) (number 2 s 1) fits,
+        le-ltb (length t) (number 2 s 1) fits',
+      )
+
+  -- what a good header says of LEN
+  good-len : (cat len : ℕ) → headerOf s ≡ Head.Good cat len → len ≡ number 2 s 1
+  good-len cat len e = header-good s cat len e .is-len
+
+  read-same : ((cat len : ℕ) → headerOf s ≡ Head.Good cat len → recordsAt s len (category cat) len 3 ≡ recordsAt t len (category cat) len 3)
+      → readOf s ≡ readOf t
+  unfolding readOf
+  read-same h = go (headerOf s) refl ∙ ap (readFrom t) same-header
+    where
+      go : (x : Head) → headerOf s ≡ x → readFrom s x ≡ readFrom t x
+      go (head.Refused n) e = refl
+      go (head.Good cat len) e = ap (answerOf len) (h cat len e)
+
+  -- Octets after LEN are not read.
+  module _ (before : SameBefore (number 2 s 1) s t) where
+    before-len : (cat len : ℕ) → headerOf s ≡ Head.Good cat len → SameBefore len s t
+    before-len cat len e = rw (good-len cat len e) before
+
+    pub read-after-len : readOf s ≡ readOf t
+    read-after-len = read-same (λ cat len e. records-before len s t (before-len cat len e) (category cat) len 3)
+
+    after-len : (start : ℕ) → SameRecord s t start
+    after-len start = record {
+      head = same-header;
+      is = λ cat len e. record-before len s t (before-len cat len e) (category cat) start;
+      from = λ cat len e. ap (stopOf start) (specs-before len s t (before-len cat len e) (category cat .most - 1) start);
+    }
+
+    pub step-after-len : (start : ℕ) → stepOf s start ≡ stepOf t start
+    step-after-len start = same-step s t start (after-len start)
+
+    pub entry-after-len : Octets s → Octets t → (start k : ℕ) → entryOf s start k ≡ entryOf t start k
+    entry-after-len o o' start = same-entry s t start (after-len start) o o'
+
+  -- Spare bits change no answer.
+  records-alike : (len : ℕ) (c : Category) (n at : ℕ) → RecordsAlikeAt s t len c n at → recordsAt s len c n at ≡ recordsAt t len c n at
+  unfolding recordsAt
+  records-alike len c zero at h = refl
+  records-alike len c (suc n) at h =
+      rw (← record-alike-at s t len c at (h .0), go (recordAt s len c at) (records-alike len c n) (h .1))
+    where
+      go : (a : Answer ℕ Rec) → ((q : ℕ) → RecordsAlikeAt s t len c n q → recordsAt s len c n q ≡ recordsAt t len c n q)
+          → IfGot a (λ r q. RecordsAlikeAt s t len c n q)
+          → firstAt s len at a (λ q. recordsAt s len c n q) ≡ firstAt t len at a (λ q. recordsAt t len c n q)
+      go (refused m) ih k = refl
+      go (got r q) ih k = ap (with r) (ih q k)
+
+  pub read-alike : ((cat len : ℕ) → headerOf s ≡ Head.Good cat len → RecordsAlikeAt s t len (category cat) len 3) → readOf s ≡ readOf t
+  read-alike h = read-same (λ cat len e. records-alike len (category cat) len 3 (h cat len e))
+
+  module _ (start : ℕ) (h : (cat len : ℕ) → headerOf s ≡ Head.Good cat len → RecordAlikeAt s t len (category cat) start) where
+    alike : SameRecord s t start
+    alike = record {
+      head = same-header;
+      is = λ cat len e. record-alike-at s t len (category cat) start (h cat len e);
+      from = λ cat len e. ap (stopOf start) (h cat len e .0);
+    }
+
+    pub step-alike : stepOf s start ≡ stepOf t start
+    step-alike = same-step s t start alike
+
+    pub entry-alike : Octets s → Octets t → (k : ℕ) → entryOf s start k ≡ entryOf t start k
+    entry-alike o o' = same-entry s t start alike o o'
