@@ -9,6 +9,8 @@ pub mod MarksLaws
 pub mod PresenceLaws
 pub mod WalkSteps
 pub mod ReadSteps
+pub mod Faults
+pub mod RecordFaults
 pub mod ListedLaws
 pub mod ItemStarts
 pub mod TypedLaws

@@ -11,3 +11,4 @@ pub mod Typed
 pub mod Steps
 pub mod Meaning
 pub mod Boundaries
+pub mod Faults
