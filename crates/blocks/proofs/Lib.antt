@@ -14,6 +14,8 @@ pub mod RecordFaults
 pub mod ListedLaws
 pub mod ItemStarts
 pub mod TypedLaws
+pub mod MeaningLaws
+pub mod BoundaryLaws
 pub mod StepLaws
 pub mod SameAnswers
 pub mod AtEnd

@@ -1,4 +1,4 @@
--- Reading, steps and entries listed by document 01's number and values: what is listed is listed of the answer itself. Assumes nothing.
+-- Reading, steps and entries as document 01 lists them, number and values: the definitions list the answers themselves. Assumes nothing.
 use mathlib.Core.Path.{_≡_, refl, sym, ap}
 use mathlib.Core.Bool.{Bool, true, false, _||_}
 use mathlib.Core.List.{List}
@@ -16,11 +16,10 @@ use Rattle.blocks.specs.Records.{Rec}
 use Rattle.blocks.specs.Blocks.{Block, wrong, all, blockFrom, blockOf}
 use Rattle.blocks.specs.Offsets.{recordAt}
 use Rattle.blocks.specs.Walks.{answerOf, readFrom, readOf, listedReading, blockListed, readListed}
-use Rattle.blocks.specs.Steps.{itemsFrom, takenBy, takeBy, stepFrom, stepBy, entryFrom, entryBy, entryGroupOf, entryValues, stepOf, stepRefused, stepTaken, listedStep, stepListed, foundOf, entryOf, entryRefused, entryFound, listedEntry, entryListed}
+use Rattle.blocks.specs.Steps.{itemsFrom, takenBy, takeBy, stepFrom, stepBy, entryFrom, entryBy, entryGroupOf, entryValues, stepOf, listedStep, stepListed, foundOf, entryOf, entryRefused, entryFound, listedEntry, entryListed}
 use Rattle.blocks.specs.declared.header.Head.{Head}
 use Rattle.blocks.specs.declared.header.Head.the-variants as head
 use Rattle.blocks.specs.declared.record.Record.{Record}
-use Rattle.blocks.specs.declared.cursor.Step.{Step}
 use Rattle.blocks.specs.declared.cursor.Found.{Found}
 use Rattle.blocks.proofs.HeaderLaws.{header-cases}
 use Rattle.blocks.proofs.WindowLaws.{records-at}
@@ -58,7 +57,9 @@ module _ {A B : Type 0} (f : A → B) {no : ℕ → ℕ → A} {yes : Record →
   from-made s start (head.Refused n) = of-no n 0
   from-made s start (head.Good number len) = go (ltb start 3 || leb len start)
     where
-      go : (b : Bool) → f (pick b (no noSuch 0) (takeBy no yes s len number start)) ≡ pick b (no' noSuch 0) (takeBy no' yes' s len number start)
+      go : (b : Bool)
+          → f (pick b (no noSuch 0) (takeBy no yes s len number start))
+          ≡ pick b (no' noSuch 0) (takeBy no' yes' s len number start)
       go true = of-no noSuch 0
       go false = take-made s len number start
 

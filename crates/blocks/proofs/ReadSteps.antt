@@ -55,7 +55,7 @@ module _ (s : List ℕ) (len : ℕ) (c : Category) where
       (omega arith, omega arith)
 
   -- a record has an octet at least, and lies within the block
-  record-within : Octets s → (at q : ℕ) (r : Rec) → recordAt s len c at ≡ got r q → (at < q) × (q ≤ len)
+  pub record-within : Octets s → (at q : ℕ) (r : Rec) → recordAt s len c at ≡ got r q → (at < q) × (q ≤ len)
   unfolding recordAt
   record-within o at q r h =
       let (gs, p, e, h') = through (specsAt s len (c .most - 1) at) h in
@@ -67,12 +67,12 @@ module _ (s : List ℕ) (len : ℕ) (c : Category) where
       let (a, b) = items-within (layoutOf c gs) p q' trs (w .within) e' in
       (omega arith, omega arith)
 
-  records-end : (m at : ℕ) → len ≤ at → recordsAt s len c m at ≡ all (c .number) []
+  pub records-end : (m at : ℕ) → len ≤ at → recordsAt s len c m at ≡ all (c .number) []
   unfolding recordsAt
   records-end zero at h = rw (le-leb len at h)
   records-end (suc m) at h = rw (le-leb len at h)
 
-  records-one : (m k at : ℕ) → m ≡ suc k → at < len
+  pub records-one : (m k at : ℕ) → m ≡ suc k → at < len
       → recordsAt s len c m at ≡ firstAt s len at (recordAt s len c at) (λ q. recordsAt s len c k q)
   unfolding recordsAt
   records-one m k at e h = rw (e, lt-leb len at h)

@@ -60,7 +60,7 @@ module _ (s t : List ℕ) (start : ℕ) where
           let g' = header-good t (w .cat) (w .len) (sym (same .head) ∙ w .head) in
           let a = entry-values s (w .len) (w .cat) start o (g .fits) (g .known) (w .r) q (w .is) x (w .same) k l in
           let b = entry-values t (w .len) (w .cat) start o' (g' .fits) (g' .known) (w .r) q
-              (sym (same .is (w .cat) (w .len) (w .head)) ∙ w .is) x (rw (← same .from (w .cat) (w .len) (w .head)) (w .same)) k l in
+          (sym (same .is (w .cat) (w .len) (w .head)) ∙ w .is) x (rw (← same .from (w .cat) (w .len) (w .head)) (w .same)) k l in
           a ∙ sym b
 
       abbrev found : List ℕ → Record → Found

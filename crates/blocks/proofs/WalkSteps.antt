@@ -35,7 +35,7 @@ use Rattle.blocks.specs.declared.walk.Walked.{Walked}
 use Rattle.blocks.proofs.MarksLaws.{flags-32, formats-more, spare-more, meets-more, flags-long, Marked, specs-marked, spec-end}
 
 -- what holds of the three categories holds of every one that is read
-by-known : (P : ℕ → Type 0) → P 23 → P 65 → P 242 → (n : ℕ) → known n ≡ true → P n
+pub by-known : (P : ℕ → Type 0) → P 23 → P 65 → P 242 → (n : ℕ) → known n ≡ true → P n
 by-known P a b c n h = go (eqb n 23) (eqb n 65) (eqb n 242) refl refl refl h
   where
     go : (x y z : Bool) → eqb n 23 ≡ x → eqb n 65 ≡ y → eqb n 242 ≡ z → (x || (y || z)) ≡ true → P n

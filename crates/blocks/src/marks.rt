@@ -1,10 +1,10 @@
 // The marks of a record's fields as a number: bit f - 1 for field f.
 ghost use mathlib.Core.Path.{_≡_};
-ghost use mathlib.Core.Bool.{false};
+ghost use mathlib.Core.Bool.{true, false};
 ghost use mathlib.Core.List.{[], _∷_};
 ghost use Prim.Native.Nat.{_+_, _*_, _-_, _/_, _≤_, _<_};
 ghost use lib.ListN.{length, getD};
-ghost use Rattle.layouts.specs.Categories.{category};
+ghost use Rattle.layouts.specs.Categories.{category, known};
 ghost use Rattle.blocks.specs.Specification.{flags};
 ghost use Rattle.blocks.specs.Marks.{marksOf, flagsOf, groupsOf, isSpare};
 ghost use Rattle.blocks.specs.Records.{marksSpare};
@@ -48,6 +48,14 @@ pub fn is_marked(marks: u32, field: usize) -> bool
     ensures { λ r. ⌜ r ≡ getD (flagsOf 32 marks) (field - 1) false ⌝ }
 {
     (marks >> (field - 1)) % 2 == 1
+}
+
+// A category's last field: a specification octet marks seven. Only for the next layer: the category is one that is read.
+pub fn last_field(number: u8) -> usize
+    requires { ⌜ known number ≡ true ⌝ }
+    ensures { λ r. ⌜ (r ≡ length (category number .fields)) × (r ≤ 14) ⌝ }
+{
+    layouts::category::most_of(number) as usize * 7
 }
 
 // Whether a kind is that of a spare field, or of one past the category's last.

@@ -12,6 +12,7 @@ ghost use Rattle.blocks.specs.Walks.{runOf, restOf, answerOf, readOf, li
 use crate::header::Head;
 use crate::header::header;
 use crate::marks::is_marked;
+use crate::marks::last_field;
 use crate::marks::marks_at;
 use crate::marks::marks_refusal;
 use crate::presence::is_present;
@@ -42,14 +43,6 @@ fn type_after(number: u8, field: usize, octet: u8, kind: u8) -> u8
         return kind;
     }
     if field == 2 { octet } else { kind }
-}
-
-// A category's last field: a specification octet marks seven.
-fn last_field(number: u8) -> usize
-    requires { ⌜ known number ≡ true ⌝ }
-    ensures { λ r. ⌜ (r ≡ length (category number .fields)) × (r ≤ 14) ⌝ }
-{
-    most_of(number) as usize * 7
 }
 
 // From a record on, at most so many records.

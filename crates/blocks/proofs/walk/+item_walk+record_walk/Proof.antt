@@ -17,7 +17,7 @@ use Rattle.blocks.proofs.marks.is_marked.Reads as is-marked-reads
 use Rattle.blocks.proofs.marks.marks_at.Reads as marks-at-reads
 use Rattle.blocks.proofs.marks.marks_refusal.Reads as marks-refusal-reads
 use Rattle.blocks.proofs.presence.is_present.Reads as is-present-reads
-use Rattle.blocks.proofs.walk.last_field.Reads as last-field-reads
+use Rattle.blocks.proofs.marks.last_field.Reads as last-field-reads
 use Rattle.blocks.proofs.walk.type_after.Reads as type-after-reads
 use Rattle.blocks.proofs.walk.item_walk.Reads as item-walk
 use Rattle.blocks.proofs.walk.item_walk.Kinds as item-walk-kinds

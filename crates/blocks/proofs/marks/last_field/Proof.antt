@@ -2,8 +2,8 @@
 use native.Mathlib.Omega.{arith}
 use borrow.Author.Needs.{needs}
 use Rattle.blocks.proofs.WalkSteps.{table}
-use Rattle.blocks.proofs.walk.last_field.Statement.{statement}
-use Rattle.blocks.proofs.walk.last_field.Tie as tie
+use Rattle.blocks.proofs.marks.last_field.Statement.{statement}
+use Rattle.blocks.proofs.marks.last_field.Tie as tie
 
 pub last-field-spec : {M : Type 1} → statement M
 last-field-spec =

@@ -1,0 +1,230 @@
+-- The records found fill LEN exactly, each from where the one before it ended, by reading and by stepping. Assumes nothing.
+use mathlib.Core.Path.{_≡_, refl, sym, ap, _∙_, subst}
+use mathlib.Core.Logic.{_⊎_, inl, inr}
+use mathlib.Core.Bool.{Bool, true, false, _||_}
+use mathlib.Core.List.{List, [], _∷_, map}
+use Prim.Native.Nat.{ℕ, zero, suc, _-_, _≤_, _<_}
+use native.Mathlib.Omega.{arith}
+use borrow.Author.Tests.{leb-true, leb-false, lt-leb, le-leb, le-ltb}
+use lib.Dec.{leb, ltb}
+use lib.ListN.{length, length-map}
+use Rattle.octets.specs.Numbers.{Octets}
+use Rattle.octets.specs.Refusals.{noSuch}
+use Rattle.layouts.specs.Formats.{Answer, refused, got}
+use Rattle.layouts.specs.Categories.{Category, category}
+use Rattle.layouts.proofs.Answers.{choose}
+use Rattle.blocks.specs.Headers.{headerOf}
+use Rattle.blocks.specs.Records.{Rec}
+use Rattle.blocks.specs.Blocks.{Block, wrong, all, with, blockOf}
+use Rattle.blocks.specs.Offsets.{recordAt, firstAt, recordsAt}
+use Rattle.blocks.specs.Walks.{answerOf, readOf}
+use Rattle.blocks.specs.Typed.{typedRec}
+use Rattle.blocks.specs.Steps.{itemsFrom, takenBy, takeBy, stepFrom, stepBy, stepOf}
+use Rattle.blocks.specs.Meaning.{recOf}
+use Rattle.blocks.specs.Boundaries.{Joined, Visited}
+use Rattle.blocks.specs.declared.header.Head.{Head}
+use Rattle.blocks.specs.declared.header.Head.the-variants as head
+use Rattle.blocks.specs.declared.record.Record.{Record}
+use Rattle.blocks.specs.declared.cursor.Cursor.{Cursor}
+use Rattle.blocks.specs.declared.cursor.Step.{Step}
+use Rattle.blocks.specs.declared.cursor.Step.the-variants as step
+use Rattle.blocks.specs.declared.walk.Reading.{Reading}
+use Rattle.blocks.proofs.HeaderLaws.{header-good}
+use Rattle.blocks.proofs.BlockLaws.{category-number}
+use Rattle.blocks.proofs.WindowLaws.{records-at}
+use Rattle.blocks.proofs.ReadSteps.{record-within, records-end, records-one}
+use Rattle.blocks.proofs.MeaningLaws.{means-read}
+
+module _ (s : List ℕ) (len : ℕ) (c : Category) where
+  -- what reading from an offset finds: records that go to LEN; or records up to the first faulty one
+  abbrev Found : ℕ → Block → Type 0
+  Found at (all cat rs) = (cat ≡ c .number) × Joined s len c at rs len
+  Found at (wrong n end) = (rs : List Rec) × Joined s len c at rs end × (recordAt s len c end ≡ refused n) × (end < len)
+
+  -- a record in front
+  found-with : (at q : ℕ) (r : Rec) → recordAt s len c at ≡ got r q → at < q → q ≤ len → (b : Block) → Found q b → Found at (with r b)
+  found-with at q r e l m (all cat rs) w = (w .0, (q, e, l, m, w .1))
+  found-with at q r e l m (wrong n end) w = (r ∷ w .0, (q, e, l, m, w .1), w .2, w .3)
+
+  module _ (o : Octets s) where
+    found-first : (at : ℕ) → at < len → (f : ℕ → Block) → ((q : ℕ) → at < q → q ≤ len → Found q (f q))
+        → (m : Answer ℕ Rec) → recordAt s len c at ≡ m → Found at (firstAt s len at m f)
+    found-first at l f k (refused n) e = ([], refl, e, l)
+    found-first at l f k (got r q) e =
+        let (a, b) = record-within s len c o at q r e in
+        found-with at q r e a b (f q) (k q a b)
+
+    found-none : (m at : ℕ) → at ≤ len → len ≤ at → Found at (recordsAt s len c m at)
+    found-none m at l h = subst (Found at) (sym (records-end s len c m at h)) (refl, omega arith)
+
+    -- each record has an octet, so as many steps as octets are left to LEN are enough
+    found : (m at : ℕ) → at ≤ len → len - at ≤ m → Found at (recordsAt s len c m at)
+    found zero at l k = found-none 0 at l (omega arith)
+    found (suc m) at l k = go (leb len at) refl (λ q a b. found m q b (omega arith))
+      where
+        go : (b : Bool) → leb len at ≡ b → ((q : ℕ) → at < q → q ≤ len → Found q (recordsAt s len c m q))
+            → Found at (recordsAt s len c (suc m) at)
+        go true e ih = found-none (suc m) at l (leb-true len at e)
+        go false e ih =
+            let more = leb-false len at e in
+            subst (Found at) (sym (records-one s len c (suc m) m at refl more))
+            (found-first at more (λ q. recordsAt s len c m q) ih (recordAt s len c at) refl)
+
+  -- records that go to LEN are those that reading finds
+  joined-records : (m at : ℕ) (rs : List Rec) → len - at ≤ m → Joined s len c at rs len → recordsAt s len c m at ≡ all (c .number) rs
+  joined-records m at [] k j = records-end s len c m at (omega arith)
+  joined-records m at (r ∷ rs) k (q, e, l, h, j) =
+      records-one s len c m (m - 1) at (omega arith) (omega arith)
+      ∙ rw (e, joined-records (m - 1) q rs (omega arith) j)
+
+-- a good header: reading, and the block's records, are those from offset 3 on
+module _ (s : List ℕ) (cat len : ℕ) (h : headerOf s ≡ Head.Good cat len) where
+  abbrev body : Block
+  body = recordsAt s len (category cat) len 3
+
+  read-good : readOf s ≡ answerOf len body
+  unfolding readOf
+  read-good = rw h
+
+  block-good : blockOf s ≡ body
+  unfolding blockOf
+  block-good = rw h (records-at s len (header-good s cat len h .fits) (category cat) len 3)
+
+  body-found : Octets s → Found s len (category cat) 3 body
+  body-found o = let w = header-good s cat len h in found s len (category cat) o len 3 (omega arith) (omega arith)
+
+read-refused : (s : List ℕ) (n : ℕ) → headerOf s ≡ Head.Refused n → readOf s ≡ Reading.Refused n 0
+unfolding readOf
+read-refused s n h = rw h
+
+not-accepted : {n at len count : ℕ} → Reading.Refused n at ≡ Reading.Accepted len count → ⊥
+not-accepted h = let z : _≡_ {A = ℕ} 0 1 = cc in omega arith
+
+-- what an accepted block is: records that fill LEN exactly
+abbrev pub Full : List ℕ → ℕ → ℕ → Type 0
+Full s len n =
+    (cat : ℕ) × (rs : List Rec) × (headerOf s ≡ Head.Good cat len) × Joined s len (category cat) 3 rs len
+    × (length rs ≡ n) × (blockOf s ≡ all cat rs)
+
+-- what a refused block is: its header is; or a record is, the first one that is, and at its offset
+abbrev pub Stopped : List ℕ → ℕ → ℕ → Type 0
+Stopped s n at =
+    ((headerOf s ≡ Head.Refused n) × (at ≡ 0))
+    ⊎ ((cat : ℕ) × (len : ℕ) × (rs : List Rec) × (headerOf s ≡ Head.Good cat len) × Joined s len (category cat) 3 rs at
+    × (recordAt s len (category cat) at ≡ refused n) × (at < len))
+
+full-all : (s : List ℕ) (cat len' len n : ℕ) → headerOf s ≡ Head.Good cat len'
+    → (b : Block) → blockOf s ≡ b → Found s len' (category cat) 3 b → answerOf len' b ≡ Reading.Accepted len n → Full s len n
+full-all s cat len' len n h (wrong m at) e w a = absurd (not-accepted a)
+full-all s cat len' len n h (all cat' rs) e w a =
+    let same-len : len' ≡ len = cc in
+    let same-cat : cat' ≡ cat = w .0 ∙ category-number cat in
+    let count : length rs ≡ n = cc in
+    subst (λ l. Full s l n) same-len (cat, rs, h, w .1, count, rw same-cat at e)
+
+-- An accepted block: its records fill LEN exactly, and there are as many as the answer says.
+pub read-filled : (s : List ℕ) (len n : ℕ) → Octets s → readOf s ≡ Reading.Accepted len n → Full s len n
+read-filled s len n o a = go (headerOf s) refl
+  where
+    go : (h : Head) → headerOf s ≡ h → Full s len n
+    go (head.Refused m) h = absurd (not-accepted (sym (read-refused s m h) ∙ a))
+    go (head.Good cat len') h =
+        full-all s cat len' len n h (body s cat len' h) (block-good s cat len' h) (body-found s cat len' h o)
+        (sym (read-good s cat len' h) ∙ a)
+
+-- The converse: records that fill LEN exactly are accepted.
+pub filled-read : (s : List ℕ) (cat len : ℕ) (rs : List Rec) → headerOf s ≡ Head.Good cat len → Joined s len (category cat) 3 rs len
+    → readOf s ≡ Reading.Accepted len (length rs)
+filled-read s cat len rs h j = read-good s cat len h ∙ rw (joined-records s len (category cat) len 3 rs (omega arith) j)
+
+stopped-wrong : (s : List ℕ) (cat len n at : ℕ) → headerOf s ≡ Head.Good cat len → (b : Block) → Found s len (category cat) 3 b
+    → answerOf len b ≡ Reading.Refused n at → Stopped s n at
+stopped-wrong s cat len n at h (all cat' rs) w a = absurd (not-accepted (sym a))
+stopped-wrong s cat len n at h (wrong m end) w a =
+    let same : m ≡ n = cc in
+    let here : end ≡ at = cc in
+    rw (← same, ← here) (inr (cat, len, w .0, h, w .1, w .2, w .3))
+
+-- A refused block: at the offset of its first faulty record, and all records before it are good.
+pub read-stopped : (s : List ℕ) (n at : ℕ) → Octets s → readOf s ≡ Reading.Refused n at → Stopped s n at
+read-stopped s n at o a = go (headerOf s) refl
+  where
+    go : (h : Head) → headerOf s ≡ h → Stopped s n at
+    go (head.Refused m) h =
+        let e = sym (read-refused s m h) ∙ a in
+        let same : m ≡ n = cc in
+        inl (rw same at h, cc)
+    go (head.Good cat len) h =
+        stopped-wrong s cat len n at h (body s cat len h) (body-found s cat len h o) (sym (read-good s cat len h) ∙ a)
+
+-- Stepping
+
+module _ (s : List ℕ) (cat len : ℕ) (h : headerOf s ≡ Head.Good cat len) where
+  -- a step from where a record was read takes that record, typed, and goes to where it ended
+  step-read : (at q : ℕ) (r : Rec) → 3 ≤ at → at < len → recordAt s len (category cat) at ≡ got r q
+      → stepOf s at ≡ Step.Taken (typedRec (category cat) r (itemsFrom s len (category cat) at)) (record { at = q })
+  unfolding stepOf stepBy takeBy
+  step-read at q r a b e = rw (h, le-ltb at 3 a, lt-leb len at b, e)
+
+  -- so steps visit the records that reading finds
+  joined-visited : Octets s → (at end : ℕ) (rs : List Rec) → 3 ≤ at → Joined s len (category cat) at rs end
+      → (ts : List Record) × Visited s at ts end × (map (recOf s) ts ≡ rs)
+  joined-visited o at end [] l j = ([], j, refl)
+  joined-visited o at end (r ∷ rs) l (q, e, a, b, j) =
+      let t = typedRec (category cat) r (itemsFrom s len (category cat) at) in
+      let (ts, v, m) = joined-visited o q end rs (omega arith) j in
+      let means = means-read s len cat at o (header-good s cat len h .known) r q e in
+      (t ∷ ts, (q, step-read at q r l (omega arith) e, v), rw (means, m))
+
+  -- From LEN on no step takes a record.
+  pub step-end : (at : ℕ) → len ≤ at → stepOf s at ≡ Step.Refused noSuch 0
+  unfolding stepOf stepBy
+  step-end at l =
+      let w = header-good s cat len h in
+      rw (h, le-ltb at 3 (omega arith), le-leb len at l)
+
+-- Stepping from offset 3 visits an accepted block's records, all of them and in order, up to LEN.
+pub visited : (s : List ℕ) (len n : ℕ) → Octets s → readOf s ≡ Reading.Accepted len n
+    → (cat : ℕ) × (ts : List Record) × Visited s 3 ts len × (length ts ≡ n) × (blockOf s ≡ all cat (map (recOf s) ts))
+visited s len n o a =
+    let (cat, rs, h, j, count, is) = read-filled s len n o a in
+    let (ts, v, m) = joined-visited s cat len h o 3 len rs (omega arith) j in
+    (cat, ts, v, sym (length-map ts (recOf s)) ∙ ap length m ∙ count, rw m is)
+
+-- a step that takes a record goes forward
+abbrev Forward : ℕ → Step → Type 0
+Forward at (step.Refused n p) = Unit {0}
+Forward at (step.Taken t c) = at < c .at
+
+abbrev taken : Record → ℕ → Step
+taken t q = Step.Taken t (record { at = q })
+
+module _ (s : List ℕ) (o : Octets s) where
+  from-forward : (at : ℕ) (h : Head) → Forward at (stepFrom Step.Refused taken s at h)
+  unfolding takeBy
+  from-forward at (head.Refused n) = tt
+  from-forward at (head.Good cat len) =
+      choose (Forward at) (ltb at 3 || leb len at) (λ e. tt) (λ e. go (recordAt s len (category cat) at) refl)
+    where
+      go : (m : Answer ℕ Rec) → recordAt s len (category cat) at ≡ m
+          → Forward at (takenBy Step.Refused taken (category cat) at (itemsFrom s len (category cat) at) m)
+      go (refused n) e = tt
+      go (got r q) e = record-within s len (category cat) o at q r e .0
+
+  step-forward : (at q : ℕ) (t : Record) → stepOf s at ≡ Step.Taken t (record { at = q }) → at < q
+  unfolding stepOf stepBy
+  step-forward at q t e = subst (Forward at) e (from-forward at (headerOf s))
+
+  visited-forward : (at end : ℕ) (ts : List Record) → Visited s at ts end → at ≤ end
+  visited-forward at end [] j = omega arith
+  visited-forward at end (t ∷ ts) (q, e, v) = omega (arith, step-forward at q t e, visited-forward q end ts v)
+
+  -- From one offset to another steps visit one list of records only.
+  pub visited-only : (at end : ℕ) (ts us : List Record) → Visited s at ts end → Visited s at us end → ts ≡ us
+  visited-only at end [] [] v w = refl
+  visited-only at end [] (u ∷ us) v (q, e, w) = absurd (omega (arith, step-forward at q u e, visited-forward q end us w))
+  visited-only at end (t ∷ ts) [] (q, e, v) w = absurd (omega (arith, step-forward at q t e, visited-forward q end ts v))
+  visited-only at end (t ∷ ts) (u ∷ us) (q, e, v) (p, d, w) =
+      let same : t ≡ u = cc in
+      let next : q ≡ p = ap (λ (c : Cursor). c .at) (cc) in
+      rw same (ap (λ (l : List Record). u ∷ l) (visited-only q end ts us v (rw (← next) at w)))

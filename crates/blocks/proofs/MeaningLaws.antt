@@ -1,0 +1,344 @@
+-- A typed record that was made of a record read means that record. Assumes nothing.
+use mathlib.Core.Path.{_≡_, refl, ap, _∙_, subst}
+use mathlib.Core.Bool.{Bool, true, false, _&&_, false≢true}
+use mathlib.Core.List.{List, [], _∷_, _++_}
+use Prim.Native.Nat.{ℕ, zero, suc, _+_, _-_, _*_, _/_, _%_, _≤_, _<_}
+use native.Mathlib.Nat.{zero-add, sub-zero, add-zero}
+use native.Mathlib.Omega.{arith}
+use borrow.Author.Tests.{eqb-true}
+use lib.Dec.{leb, ltb, eqb}
+use lib.ListN.{length, getD, replicate}
+use Rattle.octets.specs.Choice.{pick, odd}
+use Rattle.octets.specs.Numbers.{Octets, number}
+use Rattle.octets.specs.Refusals.{presenceBroken}
+use Rattle.layouts.specs.Groups.{values, Group}
+use Rattle.layouts.specs.Formats.{Answer, refused, got, andThen, Format, done, ask, Trace, fitsIn}
+use Rattle.layouts.specs.Offsets.{runAt, itemAt}
+use Rattle.layouts.specs.Layouts.{Layout, unused, fixed, extended, repeated, explicit, counted, format}
+use Rattle.layouts.specs.Tables.{layout}
+use Rattle.layouts.specs.Categories.{Category, known, category}
+use Rattle.layouts.specs.declared.form.Form.{Form}
+use Rattle.layouts.specs.declared.form.Form.the-variants as form
+use Rattle.layouts.proofs.Answers.{both, got-refused, pick-no, pick-yes, through, OfGot, choose}
+use Rattle.items.specs.Typed.{val, itemOf, traceOf}
+use Rattle.items.specs.declared.typed.Item.{Item}
+use Rattle.items.proofs.Items.{typed-trace}
+use Rattle.blocks.specs.Specification.{flags}
+use Rattle.blocks.specs.Marks.{marksOf, flagsOf}
+use Rattle.blocks.specs.Records.{Rec, formats, isUnused, layoutOf, marksRefusal, present}
+use Rattle.blocks.specs.Offsets.{specsAt, itemsAt, recordAt}
+use Rattle.blocks.specs.Typed.{fieldFor, placeIn, typedRec}
+use Rattle.blocks.specs.Steps.{itemsFrom}
+use Rattle.blocks.specs.Meaning.{itemIn, sevens, valuesOf, recOf}
+use Rattle.blocks.specs.declared.record.Record.{Record}
+use Rattle.blocks.proofs.MarksLaws.{flags-long, flags-32, marks-one, marks-cons, specs-marked}
+use Rattle.blocks.proofs.WalkSteps.{by-known, Table, table, item-run}
+use Rattle.blocks.proofs.ItemStarts.{startIn, items-there}
+
+-- The marks
+
+-- numbers of seven marks each
+abbrev Sevens : List ℕ → Type 0
+Sevens [] = Unit {0}
+Sevens (g ∷ gs) = (g < 128) × Sevens gs
+
+no-sevens : (n : ℕ) → Sevens (replicate n 0)
+no-sevens zero = tt
+no-sevens (suc n) = (omega arith, no-sevens n)
+
+-- half an octet is such a number
+specs-sevens : (s : List ℕ) (len : ℕ) → Octets s → (n at : ℕ) → OfGot (λ gs q. Sevens gs) (specsAt s len n at)
+unfolding specsAt
+specs-sevens s len o zero at =
+    choose (OfGot (λ gs q. Sevens gs)) (leb len at) (λ e. tt)
+    (λ e. choose (OfGot (λ gs q. Sevens gs)) (odd (getD s at 0)) (λ f. tt) (λ f. (omega (arith, o at), tt)))
+specs-sevens s len o (suc n) at =
+    choose (OfGot (λ gs q. Sevens gs)) (leb len at) (λ e. tt)
+    (λ e. choose (OfGot (λ gs q. Sevens gs)) (odd (getD s at 0))
+    (λ f. go (specsAt s len n (at + 1)) (specs-sevens s len o n (at + 1)))
+    (λ f. (omega (arith, o at), no-sevens (suc n))))
+  where
+    go : (m : Answer ℕ (List ℕ)) → OfGot (λ gs q. Sevens gs) m
+        → OfGot (λ gs q. Sevens gs) (andThen m (λ gs q. got (getD s at 0 / 2 ∷ gs) q))
+    go (refused k) w = tt
+    go (got gs q) w = (omega (arith, o at), w)
+
+-- seven bits, the high one first
+bits : (g : ℕ) → g < 128 → g / 64 % 2 * 64 + g / 32 % 2 * 32 + g / 16 % 2 * 16 + g / 8 % 2 * 8 + g / 4 % 2 * 4 + g / 2 % 2 * 2 + g % 2 ≡ g
+bits g l =
+    sum (g / 2) (g / 4) (g / 8) (g / 16) (g / 32)
+    (omega arith) (omega arith) (omega arith) (omega arith) (omega arith) (omega arith)
+  where
+    sum : (a b c d e : ℕ) → g ≡ a * 2 + g % 2 → a ≡ b * 2 + a % 2 → b ≡ c * 2 + b % 2 → c ≡ d * 2 + c % 2 → d ≡ e * 2 + d % 2
+        → e ≡ g / 64 % 2 * 2 + e % 2
+        → g / 64 % 2 * 64 + e % 2 * 32 + d % 2 * 16 + c % 2 * 8 + b % 2 * 4 + a % 2 * 2 + g % 2 ≡ g
+    sum a b c d e ha hb hc hd he hf = omega arith
+
+two : (x : ℕ) → x % 2 < 2
+two x = omega arith
+
+low-bit : (n x m : ℕ) → x < 2 → n ≡ x + m * 2 → n % 2 ≡ x
+low-bit n x m l h = omega arith
+
+-- a number of seven bits, the low one first, and what stands above them
+module _ (m a b c d e f g : ℕ) (la : a < 2) (lb : b < 2) (lc : c < 2) (ld : d < 2) (le : e < 2) (lf : f < 2) (lg : g < 2)
+    (n : ℕ) (is : n ≡ m * 128 + (a + b * 2 + c * 4 + d * 8 + e * 16 + f * 32 + g * 64)) where
+  turned : (n % 2 * 64 + n / 2 % 2 * 32 + n / 4 % 2 * 16 + n / 8 % 2 * 8 + n / 16 % 2 * 4 + n / 32 % 2 * 2 + n / 64 % 2
+      ≡ a * 64 + b * 32 + c * 16 + d * 8 + e * 4 + f * 2 + g) × (n / 128 ≡ m)
+  turned = (
+    rw (
+      low-bit n a (m * 64 + (b + c * 2 + d * 4 + e * 8 + f * 16 + g * 32)) la (omega arith),
+      low-bit (n / 2) b (m * 32 + (c + d * 2 + e * 4 + f * 8 + g * 16)) lb (omega arith),
+      low-bit (n / 4) c (m * 16 + (d + e * 2 + f * 4 + g * 8)) lc (omega arith),
+      low-bit (n / 8) d (m * 8 + (e + f * 2 + g * 4)) ld (omega arith),
+      low-bit (n / 16) e (m * 4 + (f + g * 2)) le (omega arith),
+      low-bit (n / 32) f (m * 2 + g) lf (omega arith),
+      low-bit (n / 64) g m lg (omega arith),
+    ),
+    omega arith,
+  )
+
+-- seven marks, and those behind them
+sevens-cons : (n g : ℕ) (gs : List ℕ) → g < 128 → sevens (suc n) (marksOf (flags (g ∷ gs))) ≡ g ∷ sevens n (marksOf (flags gs))
+unfolding sevens
+sevens-cons n g gs l =
+    let all = turned (marksOf (flags gs)) _ _ _ _ _ _ _ in
+    let its = all (two (g / 64)) (two (g / 32)) (two (g / 16)) (two (g / 8)) (two (g / 4)) (two (g / 2)) (two g) in
+    let e = its (marksOf (flags (g ∷ gs))) (rw (marks-one g) at (marks-cons g gs)) in
+    rw (e .0, e .1, bits g l)
+
+-- seven by seven, the marks as a number are the marks that were read
+sevens-flags : (gs : List ℕ) → Sevens gs → sevens (length gs) (marksOf (flags gs)) ≡ gs
+unfolding sevens
+sevens-flags [] w = refl
+sevens-flags (g ∷ gs) w = rw (sevens-cons (length gs) g gs (w .0), sevens-flags gs (w .1))
+
+-- The items
+
+module _ (s : List ℕ) (t : Record) where
+  -- fields that are not marked behind the last change nothing
+  values-more : (bs : List Bool) (n : ℕ) (fs : List Form) → length fs ≤ length bs
+      → valuesOf s t (bs ++ replicate n false) fs ≡ valuesOf s t bs fs
+  unfolding valuesOf
+  values-more [] zero fs h = refl
+  values-more [] (suc n) [] h = refl
+  values-more [] (suc n) (f ∷ fs) h = absurd (omega arith)
+  values-more (b ∷ bs) n [] h = refl
+  values-more (b ∷ bs) n (f ∷ fs) h = rw (values-more bs n fs (omega arith))
+
+  -- field by field
+  values-each : (bs : List Bool) (fs : List Form) (trs : List Trace) → length trs ≡ length (formats bs fs)
+      → ((n : ℕ) → n < length fs → pick (getD bs n false) (traceOf s (itemIn t (getD fs n Form.Spare))) [] ≡ getD trs n [])
+      → valuesOf s t bs fs ≡ trs
+  unfolding valuesOf formats
+  values-each [] fs [] l h = refl
+  values-each [] fs (tr ∷ trs) l h = absurd (omega arith)
+  values-each (b ∷ bs) [] [] l h = refl
+  values-each (b ∷ bs) [] (tr ∷ trs) l h = absurd (omega arith)
+  values-each (b ∷ bs) (f ∷ fs) [] l h = absurd (omega arith)
+  values-each (b ∷ bs) (f ∷ fs) (tr ∷ trs) l h =
+      rw (h 0 (omega arith), values-each bs fs trs (omega arith) (λ n m. h (suc n) (omega arith)))
+
+-- the format at a field
+format-at : (bs : List Bool) (fs : List Form) (n : ℕ) → n < length fs
+    → getD (formats bs fs) n done ≡ pick (getD bs n false) (format (layout (getD fs n Form.Spare))) done
+unfolding formats
+format-at [] fs n h = refl
+format-at (b ∷ bs) [] n h = absurd (omega arith)
+format-at (b ∷ bs) (f ∷ fs) zero h = refl
+format-at (b ∷ bs) (f ∷ fs) (suc n) h = format-at bs fs n (omega arith)
+
+module _ (s : List ℕ) (len : ℕ) where
+  items-long : (fs : List Format) (at q : ℕ) (trs : List Trace) → itemsAt s len fs at ≡ got trs q → length trs ≡ length fs
+  unfolding itemsAt
+  items-long [] at q trs h = let e : [] ≡ trs = cc in rw (← e)
+  items-long (f ∷ fs) at q trs h =
+      let (tr, p, e, h') = through (itemAt s len f at) h in
+      let (trs', q', e', last) = through (itemsAt s len fs p) h' in
+      let is : tr ∷ trs' ≡ trs = cc in
+      rw (← is) (ap suc (items-long fs p q' trs' e'))
+
+  -- nothing is read of a field that is not marked
+  done-none : (at q : ℕ) (tr : Trace) → itemAt s len done at ≡ got tr q → [] ≡ tr
+  unfolding itemAt runAt fitsIn
+  done-none at q tr h = cc
+
+  -- a spare field is not read
+  unused-unread : (l : Layout) (at q : ℕ) (tr : Trace) → isUnused l ≡ true → runAt s len (format l) at ≡ got tr q → ⊥
+  unfolding format runAt
+  unused-unread unused at q tr u h = got-refused h
+  unused-unread (fixed g) at q tr u h = false≢true u
+  unused-unread (extended g hs) at q tr u h = false≢true u
+  unused-unread (repeated g) at q tr u h = false≢true u
+  unused-unread explicit at q tr u h = false≢true u
+
+  -- a group that was read has its values
+  run-some : (g : Group) (k : List ℕ → Format) (at q : ℕ) (tr : Trace) → runAt s len (ask g k) at ≡ got tr q
+      → (v : List ℕ) × (tr' : Trace) × (tr ≡ v ∷ tr')
+  unfolding runAt
+  run-some g k at q tr h =
+      let v = values (g .parts) (number (g .wide) s at) in
+      let (enough, e) = pick-no (ltb (len - at) (g .wide)) _ _ h in
+      let (tr', q', e', last) = through (runAt s len (k v) (at + g .wide)) e in
+      (v, tr', cc)
+
+  -- so entries or content that were read have a place
+  place-read : (e : ℕ) (g : Group) (at q : ℕ) (tr : Trace) → runAt s len (counted e g) at ≡ got tr q
+      → placeIn at e tr ≡ record { at = at + 1; count = val tr 0 0 - e }
+  unfolding counted
+  place-read e g at q tr h =
+      let (v, tr', is) = run-some _ _ at q tr h in
+      rw is
+
+-- a form is spare, or field k + 1 is its field
+abbrev owned : List Form → Form → ℕ → Bool
+owned fs f k = pick (isUnused (layout f)) true (eqb (fieldFor fs f) (suc k))
+
+-- and so from k on
+abbrev owns : List Form → List Form → ℕ → Bool
+owns fs [] k = true
+owns fs (g ∷ gs) k = owned fs g k && owns fs gs (suc k)
+
+owns-at : (fs gs : List Form) (k n : ℕ) → owns fs gs k ≡ true → n < length gs
+    → owned fs (getD gs n Form.Spare) (k + n) ≡ true
+owns-at fs [] k n h l = absurd (omega arith)
+owns-at fs (g ∷ gs) k zero h l = rw add-zero (both (owned fs g k) (owns fs gs (suc k)) h .0)
+owns-at fs (g ∷ gs) k (suc n) h l =
+    let e : suc k + n ≡ k + suc n = omega arith in
+    rw (← e) (owns-at fs gs (suc k) n (both (owned fs g k) (owns fs gs (suc k)) h .1) (omega arith))
+
+-- what a typed record needs of a category: no form at two fields, and entries of one kind
+record Forms (c : Category) : Type 0 where
+  same : category (c .number) ≡ c
+  own : owns (c .fields) (c .fields) 0 ≡ true
+  statistics : (i : ℕ) → fieldFor (c .fields) Form.Statistics ≡ suc i → eqb (c .number) 242 ≡ false
+  versions : (i : ℕ) → fieldFor (c .fields) Form.Versions ≡ suc i → eqb (c .number) 242 ≡ true
+
+forms : (n : ℕ) → known n ≡ true → Forms (category n)
+forms =
+    by-known (λ (n : ℕ). Forms (category n))
+    (record { same = refl; own = refl; statistics = λ i h. refl; versions = λ i h. absurd (omega arith) })
+    (record { same = refl; own = refl; statistics = λ i h. refl; versions = λ i h. absurd (omega arith) })
+    (record { same = refl; own = refl; statistics = λ i h. absurd (omega arith); versions = λ i h. refl })
+
+one-less : (i : ℕ) → suc i - 1 ≡ i
+one-less i = omega arith
+
+module _ (s : List ℕ) (len : ℕ) (c : Category) (w : Forms c) (gs : List ℕ) (trs : List Trace) (p : ℕ) where
+  abbrev r : Rec
+  r = record { marks = gs; items = trs }
+
+  abbrev t : Record
+  t = typedRec c r p
+
+  -- where the item of field i + 1 starts
+  abbrev start : ℕ → ℕ
+  start i = startIn (layoutOf c gs) trs p i
+
+  -- the typed record has of a form's item what its field's values give
+  item-typed : (f : Form) (i q : ℕ) → fieldFor (c .fields) f ≡ suc i
+      → runAt s len (format (layout f)) (start i) ≡ got (getD trs i []) q
+      → itemIn t f ≡ itemOf f (getD trs i []) (start i + 1)
+  unfolding typedRec format
+  item-typed form.Spare i q e h = refl
+  item-typed form.Source i q e h = rw e
+  item-typed form.MessageType i q e h = rw e
+  item-typed form.Service i q e h = rw e
+  item-typed form.Identification i q e h = rw e
+  item-typed form.Time i q e h = rw e
+  item-typed form.Batch i q e h = rw e
+  item-typed form.Sdps i q e h = rw e
+  item-typed form.Report i q e h = rw e
+  item-typed form.Station i q e h = rw e
+  item-typed form.Configuration i q e h = rw e
+  item-typed form.Range i q e h = rw e
+  item-typed form.Status i q e h = rw e
+  item-typed form.Statistics i q e h =
+      rw (w .statistics i e, e, one-less i)
+      (ap Item.Statistics (place-read s len 0 _ (start i) q (getD trs i []) h ∙ rw sub-zero))
+  item-typed form.Versions i q e h =
+      rw (w .versions i e, e, one-less i)
+      (ap Item.Versions (place-read s len 0 _ (start i) q (getD trs i []) h ∙ rw sub-zero))
+  item-typed form.Expansion i q e h = rw (e, one-less i) (ap Item.Expansion (place-read s len 1 _ (start i) q (getD trs i []) h))
+  item-typed form.Purpose i q e h = rw (e, one-less i) (ap Item.Purpose (place-read s len 1 _ (start i) q (getD trs i []) h))
+
+  -- so its values are those that were read at the field
+  field-means : (f : Form) (i q : ℕ) → owned (c .fields) f i ≡ true
+      → runAt s len (format (layout f)) (start i) ≡ got (getD trs i []) q → traceOf s (itemIn t f) ≡ getD trs i []
+  field-means f i q u h = go (isUnused (layout f)) refl u
+    where
+      go : (b : Bool) → isUnused (layout f) ≡ b → pick b true (eqb (fieldFor (c .fields) f) (suc i)) ≡ true
+          → traceOf s (itemIn t f) ≡ getD trs i []
+      go true e x = absurd (unused-unread s len (layout f) (start i) q (getD trs i []) e h)
+      go false e x =
+          rw (item-typed f i q (eqb-true (fieldFor (c .fields) f) (suc i) x) h) (typed-trace s len f (start i) (getD trs i []) q h)
+
+  -- a field's values, marked or not
+  either-means : (f : Form) (i q : ℕ) → owned (c .fields) f i ≡ true
+      → (b : Bool) → itemAt s len (pick b (format (layout f)) done) (start i) ≡ got (getD trs i []) q
+      → pick b (traceOf s (itemIn t f)) [] ≡ getD trs i []
+  either-means f i q u true h = field-means f i q u (item-run s len (format (layout f)) (start i) q (getD trs i []) h)
+  either-means f i q u false h = done-none s len (start i) q (getD trs i []) h
+
+  -- field by field, where the items were read
+  values-mean : (q : ℕ) → itemsAt s len (layoutOf c gs) p ≡ got trs q → valuesOf s t (flags gs) (c .fields) ≡ trs
+  unfolding layoutOf
+  values-mean q h =
+      values-each s t (flags gs) (c .fields) trs (items-long s len (layoutOf c gs) p q trs h) λ n l.
+      let own = rw zero-add at (owns-at (c .fields) (c .fields) 0 n (w .own) l) in
+      either-means (getD (c .fields) n Form.Spare) n (start (suc n)) own (getD (flags gs) n false)
+      (rw (format-at (flags gs) (c .fields) n l) at (items-there s len (layoutOf c gs) p q trs h n))
+
+-- the specification of a record that was read, and its items
+module _ (s : List ℕ) (len : ℕ) (c : Category) (at : ℕ) where
+  abbrev Parts : ℕ → Rec → Type 0
+  Parts q r =
+      (p : ℕ) × (specsAt s len (c .most - 1) at ≡ got (r .marks) p)
+      × (itemsAt s len (layoutOf c (r .marks)) p ≡ got (r .items) q)
+
+  same-parts : (gs : List ℕ) (trs : List Trace) (p q' q : ℕ) (r : Rec) → got (record { marks = gs; items = trs }) q' ≡ got r q
+      → specsAt s len (c .most - 1) at ≡ got gs p → itemsAt s len (layoutOf c gs) p ≡ got trs q' → Parts q r
+  same-parts gs trs p q' q r end e e' =
+      let is : record { marks = gs; items = trs } ≡ r = cc in
+      let same : q' ≡ q = cc in
+      subst (Parts q) is (p, e, rw same at e')
+
+  record-parts : (q : ℕ) (r : Rec) → recordAt s len c at ≡ got r q → Parts q r
+  unfolding recordAt
+  record-parts q r h =
+      let (gs, p, e, h') = through (specsAt s len (c .most - 1) at) h in
+      let (z, h'') = pick-yes (eqb (marksRefusal c gs) 0) _ _ h' in
+      let (trs, q', e', last) = through (itemsAt s len (layoutOf c gs) p) h'' in
+      let (y, end) = pick-yes (present c gs trs) presenceBroken (got (record { marks = gs; items = trs }) q') last in
+      same-parts gs trs p q' q r end e e'
+
+-- the record that a typed record means, by its parts
+rec-of : (s : List ℕ) (t : Record) (c : Category) (gs : List ℕ) (trs : List Trace) → category (t .category) ≡ c
+    → sevens (c .most) (t .marks) ≡ gs → valuesOf s t (flagsOf 32 (t .marks)) (c .fields) ≡ trs
+    → recOf s t ≡ record { marks = gs; items = trs }
+unfolding recOf
+rec-of s t c gs trs hc hs hv = rw (hc, hs, hv)
+
+module _ (s : List ℕ) (len n : ℕ) (c : Category) (w : Forms c) (t : Table n c) where
+  rec-means : (gs : List ℕ) (trs : List Trace) (p q : ℕ) → Sevens gs → length gs ≡ c .most
+      → itemsAt s len (layoutOf c gs) p ≡ got trs q
+      → recOf s (typedRec c (record { marks = gs; items = trs }) p) ≡ record { marks = gs; items = trs }
+  unfolding typedRec
+  rec-means gs trs p q low long h =
+      let fields : length (c .fields) ≤ length (flags gs) = omega (arith, flags-long gs, t .long) in
+      rec-of s _ c gs trs (w .same) (rw long at (sevens-flags gs low))
+      (rw (flags-32 gs (omega (arith, t .few)), values-more s _ (flags gs) (32 - 7 * length gs) (c .fields) fields)
+      (values-mean s len c w gs trs p q h))
+
+  means-at : Octets s → (at q : ℕ) (r : Rec) → recordAt s len c at ≡ got r q → recOf s (typedRec c r (itemsFrom s len c at)) ≡ r
+  means-at o at q r h =
+      let (p, e, e') = record-parts s len c at q r h in
+      let low : Sevens (r .marks) = subst (OfGot (λ gs q. Sevens gs)) e (specs-sevens s len o (c .most - 1) at) in
+      let long : length (r .marks) ≡ c .most = omega (arith, specs-marked s len (c .most - 1) at (r .marks) p o e .long, t .some) in
+      rw e (rec-means (r .marks) (r .items) p q low long e')
+
+module _ (s : List ℕ) (len number at : ℕ) (o : Octets s) (k : known number ≡ true) where
+  -- A typed record that was made of a record read means that record.
+  pub means-read : (r : Rec) (q : ℕ) → recordAt s len (category number) at ≡ got r q
+      → recOf s (typedRec (category number) r (itemsFrom s len (category number) at)) ≡ r
+  means-read r q h = means-at s len number (category number) (forms number k) (table number k) o at q r h
