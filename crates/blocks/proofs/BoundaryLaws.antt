@@ -1,6 +1,6 @@
 -- The records found fill LEN exactly, each from where the one before it ended, by reading and by stepping. Assumes nothing.
 use mathlib.Core.Path.{_≡_, refl, sym, ap, _∙_, subst}
-use mathlib.Core.Logic.{_⊎_, inl, inr}
+use mathlib.Core.Logic.{inl, inr}
 use mathlib.Core.Bool.{Bool, true, false, _||_}
 use mathlib.Core.List.{List, [], _∷_, map}
 use Prim.Native.Nat.{ℕ, zero, suc, _-_, _≤_, _<_}
@@ -21,7 +21,7 @@ use Rattle.blocks.specs.Walks.{answerOf, readOf}
 use Rattle.blocks.specs.Typed.{typedRec}
 use Rattle.blocks.specs.Steps.{itemsFrom, takenBy, takeBy, stepFrom, stepBy, stepOf}
 use Rattle.blocks.specs.Meaning.{recOf}
-use Rattle.blocks.specs.Boundaries.{Joined, Visited}
+use Rattle.blocks.specs.Boundaries.{Joined, Full, Stopped, Visited}
 use Rattle.blocks.specs.declared.header.Head.{Head}
 use Rattle.blocks.specs.declared.header.Head.the-variants as head
 use Rattle.blocks.specs.declared.record.Record.{Record}
@@ -99,19 +99,6 @@ read-refused s n h = rw h
 
 not-accepted : {n at len count : ℕ} → Reading.Refused n at ≡ Reading.Accepted len count → ⊥
 not-accepted h = let z : _≡_ {A = ℕ} 0 1 = cc in omega arith
-
--- what an accepted block is: records that fill LEN exactly
-abbrev pub Full : List ℕ → ℕ → ℕ → Type 0
-Full s len n =
-    (cat : ℕ) × (rs : List Rec) × (headerOf s ≡ Head.Good cat len) × Joined s len (category cat) 3 rs len
-    × (length rs ≡ n) × (blockOf s ≡ all cat rs)
-
--- what a refused block is: its header is; or a record is, the first one that is, and at its offset
-abbrev pub Stopped : List ℕ → ℕ → ℕ → Type 0
-Stopped s n at =
-    ((headerOf s ≡ Head.Refused n) × (at ≡ 0))
-    ⊎ ((cat : ℕ) × (len : ℕ) × (rs : List Rec) × (headerOf s ≡ Head.Good cat len) × Joined s len (category cat) 3 rs at
-    × (recordAt s len (category cat) at ≡ refused n) × (at < len))
 
 full-all : (s : List ℕ) (cat len' len n : ℕ) → headerOf s ≡ Head.Good cat len'
     → (b : Block) → blockOf s ≡ b → Found s len' (category cat) 3 b → answerOf len' b ≡ Reading.Accepted len n → Full s len n
