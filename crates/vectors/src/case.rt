@@ -1,0 +1,278 @@
+// A line of input, read octet by octet as it comes, so that no line is stored.
+use crate::digits::Number;
+use crate::digits::hex_value;
+use crate::digits::with_digit;
+use crate::store::put;
+use crate::store::repeat;
+
+// The letters of an operation, as one number.
+pub const READ: u64 = 0x7265_6164;
+
+pub const STEP: u64 = 0x7374_6570;
+
+pub const ENTRY: u64 = 0x65_6E74_7279;
+
+// No digit waits for the other half of its octet.
+const NO_HALF: u8 = 16;
+
+// A word of octets: where they start, the count that its digits may turn out to be, how often it is said, and the half octet that waits.
+pub struct Word {
+    pub from: usize,
+    pub count: Number,
+    pub times: usize,
+    pub half: u8,
+}
+
+// What a line is in, by its octets so far.
+pub enum State {
+    Start,
+    Comment,
+    Letters(u64),
+    Between,
+    Digits(usize),
+    Octets(Word),
+    Wrong,
+}
+
+// A case: its operation, how many numbers are still to come, these numbers, and how many octets are in store.
+pub struct Case {
+    pub operation: u64,
+    pub wanted: u8,
+    pub start: usize,
+    pub k: usize,
+    pub len: usize,
+}
+
+pub struct Line {
+    pub state: State,
+    pub case: Case,
+}
+
+const NO_CASE: Case = Case {
+    operation: 0,
+    wanted: 0,
+    start: 0,
+    k: 0,
+    len: 0,
+};
+
+// A line of which nothing has been read.
+pub fn fresh() -> Line {
+    Line {
+        state: State::Start,
+        case: NO_CASE,
+    }
+}
+
+// A line that is no case, whatever follows.
+fn wrong() -> Line {
+    Line {
+        state: State::Wrong,
+        case: NO_CASE,
+    }
+}
+
+// How many numbers stand before the octets; 3 for what is no operation.
+fn numbers_of(operation: u64) -> u8 {
+    match operation {
+        READ => 0,
+        STEP => 1,
+        ENTRY => 2,
+        _ => 3,
+    }
+}
+
+// One letter more of the operation: ENTRY is the largest number, and what comes before `a` is no letter of any.
+fn letter(letters: u64, c: u8) -> Line {
+    if ENTRY < letters {
+        return wrong();
+    }
+    if c < b'a' {
+        return wrong();
+    }
+    Line {
+        state: State::Letters(letters * 256 + c as u64),
+        case: NO_CASE,
+    }
+}
+
+// Behind the operation's letters.
+fn named(letters: u64) -> Line {
+    let wanted = numbers_of(letters);
+    if 2 < wanted {
+        return wrong();
+    }
+    let case = Case {
+        operation: letters,
+        wanted,
+        start: 0,
+        k: 0,
+        len: 0,
+    };
+    Line {
+        state: State::Between,
+        case,
+    }
+}
+
+// One digit more of a number.
+fn digit(case: Case, n: usize, c: u8) -> Line {
+    let more = with_digit(n, c);
+    match more {
+        Number::Value(m) => Line {
+            state: State::Digits(m),
+            case,
+        },
+        Number::Nothing => wrong(),
+    }
+}
+
+// Behind a number: the second of an entry is the entry's, any other is the start.
+fn numbered(mut case: Case, n: usize) -> Line {
+    if (case.operation == ENTRY) & (case.wanted == 1) {
+        case.k = n;
+    } else {
+        case.start = n;
+    }
+    if 0 < case.wanted {
+        case.wanted -= 1;
+    }
+    Line {
+        state: State::Between,
+        case,
+    }
+}
+
+// The count that a word's digits may turn out to be, with one digit more.
+fn counted(count: Number, c: u8) -> Number {
+    match count {
+        Number::Value(n) => with_digit(n, c),
+        Number::Nothing => Number::Nothing,
+    }
+}
+
+// One digit more of a word of octets: every second one ends an octet.
+fn half_octet(store: &mut [u8], mut case: Case, word: Word, c: u8) -> Line {
+    let value = hex_value(c);
+    if 15 < value {
+        return wrong();
+    }
+    let before = word.count;
+    let count = counted(before, c);
+    let half = word.half;
+    let mut rest = NO_HALF;
+    if half < NO_HALF {
+        case.len = put(store, case.len, half * 16 + value);
+    } else {
+        rest = value;
+    }
+    Line {
+        state: State::Octets(Word {
+            from: word.from,
+            count,
+            times: word.times,
+            half: rest,
+        }),
+        case,
+    }
+}
+
+// Behind the star of a word: its digits were a count, and no octets.
+fn starred(mut case: Case, word: Word) -> Line {
+    let count = word.count;
+    match count {
+        Number::Value(n) => {
+            case.len = word.from;
+            Line {
+                state: State::Octets(Word {
+                    from: word.from,
+                    count: Number::Nothing,
+                    times: n,
+                    half: NO_HALF,
+                }),
+                case,
+            }
+        }
+        Number::Nothing => wrong(),
+    }
+}
+
+// Behind a word of octets, which has some, and no half of one.
+fn worded(store: &mut [u8], mut case: Case, word: Word) -> Line {
+    if (word.half < NO_HALF) | (case.len <= word.from) {
+        return wrong();
+    }
+    case.len = repeat(store, word.from, case.len, word.times);
+    Line {
+        state: State::Between,
+        case,
+    }
+}
+
+// The first octet of a number, or of a word of octets.
+fn begun(store: &mut [u8], case: Case, c: u8) -> Line {
+    if 0 < case.wanted {
+        return digit(case, 0, c);
+    }
+    let word = Word {
+        from: case.len,
+        count: Number::Value(0),
+        times: 1,
+        half: NO_HALF,
+    };
+    half_octet(store, case, word, c)
+}
+
+// One octet more of a word of octets, or the blank behind it.
+fn within(store: &mut [u8], case: Case, word: Word, c: u8) -> Line {
+    match c {
+        b' ' => worded(store, case, word),
+        b'*' => starred(case, word),
+        _ => half_octet(store, case, word, c),
+    }
+}
+
+// One octet more of a line.
+pub fn next(store: &mut [u8], line: Line, c: u8) -> Line {
+    let state = line.state;
+    let case = line.case;
+    let is_blank = c == b' ';
+    match state {
+        State::Start => {
+            if c == b'#' {
+                return Line {
+                    state: State::Comment,
+                    case: NO_CASE,
+                };
+            }
+            letter(0, c)
+        }
+        State::Letters(n) => { if is_blank { named(n) } else { letter(n, c) } }
+        State::Between => {
+            if is_blank {
+                line
+            } else {
+                begun(store, case, c)
+            }
+        }
+        State::Digits(n) => {
+            if is_blank {
+                numbered(case, n)
+            } else {
+                digit(case, n, c)
+            }
+        }
+        State::Octets(word) => within(store, case, word, c),
+        State::Comment => line,
+        State::Wrong => line,
+    }
+}
+
+pub fn is_comment(line: Line) -> bool {
+    let state = line.state;
+    if let State::Comment = state {
+        true
+    } else {
+        false
+    }
+}

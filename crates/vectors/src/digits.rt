@@ -1,0 +1,35 @@
+// Digits, as the lines of cases have them.
+ghost use mathlib.Core.Path.{_≡_};
+ghost use Rattle.vectors.specs.Digits.{hexValue, withDigit};
+
+// A decimal number so far; none where what was read is no digit, or too many.
+pub enum Number {
+    Value(usize),
+    Nothing,
+}
+
+// The value of a hex digit, in either case; 16 for what is no digit.
+pub fn hex_value(c: u8) -> u8
+    ensures { λ r. ⌜ r ≡ hexValue c ⌝ }
+{
+    match c {
+        b'0'..=b'9' => c - b'0',
+        b'A'..=b'F' => c - b'A' + 10,
+        b'a'..=b'f' => c - b'a' + 10,
+        _ => 16,
+    }
+}
+
+// One decimal digit more, where the number still fits.
+pub fn with_digit(n: usize, c: u8) -> Number
+    ensures { λ r. ⌜ r ≡ withDigit n c ⌝ }
+{
+    let d = hex_value(c) as usize;
+    if 9 < d {
+        return Number::Nothing;
+    }
+    if (usize::MAX - d) / 10 < n {
+        return Number::Nothing;
+    }
+    Number::Value(n * 10 + d)
+}
