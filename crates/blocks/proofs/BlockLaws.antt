@@ -117,30 +117,42 @@ category-number cat = go (eqb cat 23) (eqb cat 65) (eqb cat 242) (eqb-true cat 2
     go false false true f g h = sym (h refl)
     go false false false f g h = refl
 
--- A block that fits its length is read back, whatever stands behind it.
-pub block-put : (cat : ℕ) (rs : List Rec) → known cat ≡ true → allGood (category cat) rs ≡ true
-    → 0 < length (putRecs (category cat) rs) → 3 + length (putRecs (category cat) rs) < 65536
-    → (t : List ℕ) → blockOf (putBlock cat rs ++ t) ≡ all cat rs
-unfolding blockOf putBlock
-block-put cat rs k g some fit t =
-    let body = putRecs (category cat) rs in
-    let len = 3 + length body in
-    let head = cat ∷ octets 2 len in
-    let s = (head ++ body) ++ t in
-    let three : length head ≡ 3 = ap suc (length-octets 2 len) in
-    let long : length (head ++ body) ≡ len = rw (length-append, three) in
-    let is-len : number 2 s 1 ≡ len = rw (append-assoc head body t) (number-octets 2 len (cat ∷ []) (body ++ t) fit) in
-    let is-body : window s len 3 ≡ body = rw (take-at (head ++ body) t len long, drop-at head body 3 three) in
-    let enough : len ≤ length s = rw (length-append, long) (omega arith) in
-    let head-good : Head.Good cat len ≡ headerOf s = header-fits s (omega arith) k len (sym is-len) (omega arith) enough in
-    rw (← head-good, is-body, records-put len (category cat) len rs g (omega arith), category-number cat)
+-- What a block in normal form has for LEN, and behind its header.
+module _ (cat : ℕ) (rs : List Rec) (t : List ℕ) where
+  abbrev body : List ℕ
+  body = putRecs (category cat) rs
+
+  abbrev size : ℕ
+  size = 3 + length body
+
+  abbrev head : List ℕ
+  head = cat ∷ octets 2 size
+
+  three : length head ≡ 3
+  three = ap suc (length-octets 2 size)
+
+  pub put-len : size < 65536 → number 2 (putBlock cat rs ++ t) 1 ≡ size
+  unfolding putBlock
+  put-len fit = rw (append-assoc head body t) (number-octets 2 size (cat ∷ []) (body ++ t) fit)
+
+  -- It is read back, whatever stands behind it.
+  pub block-put : known cat ≡ true → allGood (category cat) rs ≡ true → 0 < length body → size < 65536
+      → blockOf (putBlock cat rs ++ t) ≡ all cat rs
+  unfolding blockOf putBlock
+  block-put k g some fit =
+      let s = (head ++ body) ++ t in
+      let long : length (head ++ body) ≡ size = rw (length-append, three) in
+      let is-body : window s size 3 ≡ body = rw (take-at (head ++ body) t size long, drop-at head body 3 three) in
+      let enough : size ≤ length s = rw (length-append, long) (omega arith) in
+      let head-good : Head.Good cat size ≡ headerOf s = header-fits s (omega arith) k size (sym (put-len fit)) (omega arith) enough in
+      rw (← head-good, is-body, records-put size (category cat) size rs g (omega arith), category-number cat)
 
 weaker : {P Q : ℕ → List Rec → Type 0} → ((cat : ℕ) (rs : List Rec) → P cat rs → Q cat rs)
     → (b : Block) → OfAll P b → OfAll Q b
 weaker f (wrong n at) h = tt
 weaker f (all cat rs) h = f cat rs h
 
-Octets-take : (n : ℕ) (s : List ℕ) → Octets s → Octets (take n s)
+pub Octets-take : (n : ℕ) (s : List ℕ) → Octets s → Octets (take n s)
 Octets-take n s o i = go (ltb i n) refl
   where
     go : (b : Bool) → ltb i n ≡ b → getD (take n s) i 0 < 256
@@ -179,7 +191,7 @@ pub block-normal : (s : List ℕ) (cat : ℕ) (rs : List Rec) → Octets s → b
     → (t : List ℕ) → blockOf (putBlock cat rs ++ t) ≡ all cat rs
 block-normal s cat rs o h =
     let w = subst (OfAll (Sound s)) h (block-sound s o) in
-    block-put cat rs (w .known) (w .fine) (w .some) (omega (arith, w .short, number-lt 2 s 1 o))
+    λ t. block-put cat rs t (w .known) (w .fine) (w .some) (omega (arith, w .short, number-lt 2 s 1 o))
 
 -- Rewriting again changes nothing: the records of a block in normal form give the same octets.
 pub block-again : (s : List ℕ) (cat cat' : ℕ) (rs rs' : List Rec) → Octets s → blockOf s ≡ all cat rs

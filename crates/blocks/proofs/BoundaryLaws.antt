@@ -79,14 +79,14 @@ module _ (s : List ℕ) (len : ℕ) (c : Category) where
 
 -- a good header: reading, and the block's records, are those from offset 3 on
 module _ (s : List ℕ) (cat len : ℕ) (h : headerOf s ≡ Head.Good cat len) where
-  abbrev body : Block
+  abbrev pub body : Block
   body = recordsAt s len (category cat) len 3
 
   read-good : readOf s ≡ answerOf len body
   unfolding readOf
   read-good = rw h
 
-  block-good : blockOf s ≡ body
+  pub block-good : blockOf s ≡ body
   unfolding blockOf
   block-good = rw h (records-at s len (header-good s cat len h .fits) (category cat) len 3)
 
@@ -148,7 +148,7 @@ read-stopped s n at o a = go (headerOf s) refl
 
 module _ (s : List ℕ) (cat len : ℕ) (h : headerOf s ≡ Head.Good cat len) where
   -- a step from where a record was read takes that record, typed, and goes to where it ended
-  step-read : (at q : ℕ) (r : Rec) → 3 ≤ at → at < len → recordAt s len (category cat) at ≡ got r q
+  pub step-read : (at q : ℕ) (r : Rec) → 3 ≤ at → at < len → recordAt s len (category cat) at ≡ got r q
       → stepOf s at ≡ Step.Taken (typedRec (category cat) r (itemsFrom s len (category cat) at)) (record { at = q })
   unfolding stepOf stepBy takeBy
   step-read at q r a b e = rw (h, le-ltb at 3 a, lt-leb len at b, e)

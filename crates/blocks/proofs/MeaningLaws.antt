@@ -208,13 +208,13 @@ owns-at fs (g ∷ gs) k (suc n) h l =
     rw (← e) (owns-at fs gs (suc k) n (both (owned fs g k) (owns fs gs (suc k)) h .1) (omega arith))
 
 -- what a typed record needs of a category: no form at two fields, and entries of one kind
-record Forms (c : Category) : Type 0 where
-  same : category (c .number) ≡ c
+pub record Forms (c : Category) : Type 0 where
+  pub same : category (c .number) ≡ c
   own : owns (c .fields) (c .fields) 0 ≡ true
   statistics : (i : ℕ) → fieldFor (c .fields) Form.Statistics ≡ suc i → eqb (c .number) 242 ≡ false
   versions : (i : ℕ) → fieldFor (c .fields) Form.Versions ≡ suc i → eqb (c .number) 242 ≡ true
 
-forms : (n : ℕ) → known n ≡ true → Forms (category n)
+pub forms : (n : ℕ) → known n ≡ true → Forms (category n)
 forms =
     by-known (λ (n : ℕ). Forms (category n))
     (record { same = refl; own = refl; statistics = λ i h. refl; versions = λ i h. absurd (omega arith) })
@@ -262,16 +262,20 @@ module _ (s : List ℕ) (len : ℕ) (c : Category) (w : Forms c) (gs : List ℕ)
   item-typed form.Expansion i q e h = rw (e, one-less i) (ap Item.Expansion (place-read s len 1 _ (start i) q (getD trs i []) h))
   item-typed form.Purpose i q e h = rw (e, one-less i) (ap Item.Purpose (place-read s len 1 _ (start i) q (getD trs i []) h))
 
-  -- so its values are those that were read at the field
-  field-means : (f : Form) (i q : ℕ) → owned (c .fields) f i ≡ true
-      → runAt s len (format (layout f)) (start i) ≡ got (getD trs i []) q → traceOf s (itemIn t f) ≡ getD trs i []
-  field-means f i q u h = go (isUnused (layout f)) refl u
+  -- so it is the item that was read at the field
+  field-item : (f : Form) (i q : ℕ) → owned (c .fields) f i ≡ true
+      → runAt s len (format (layout f)) (start i) ≡ got (getD trs i []) q → itemIn t f ≡ itemOf f (getD trs i []) (start i + 1)
+  field-item f i q u h = go (isUnused (layout f)) refl u
     where
       go : (b : Bool) → isUnused (layout f) ≡ b → pick b true (eqb (fieldFor (c .fields) f) (suc i)) ≡ true
-          → traceOf s (itemIn t f) ≡ getD trs i []
+          → itemIn t f ≡ itemOf f (getD trs i []) (start i + 1)
       go true e x = absurd (unused-unread s len (layout f) (start i) q (getD trs i []) e h)
-      go false e x =
-          rw (item-typed f i q (eqb-true (fieldFor (c .fields) f) (suc i) x) h) (typed-trace s len f (start i) (getD trs i []) q h)
+      go false e x = item-typed f i q (eqb-true (fieldFor (c .fields) f) (suc i) x) h
+
+  -- and has its values
+  field-means : (f : Form) (i q : ℕ) → owned (c .fields) f i ≡ true
+      → runAt s len (format (layout f)) (start i) ≡ got (getD trs i []) q → traceOf s (itemIn t f) ≡ getD trs i []
+  field-means f i q u h = rw (field-item f i q u h) (typed-trace s len f (start i) (getD trs i []) q h)
 
   -- a field's values, marked or not
   either-means : (f : Form) (i q : ℕ) → owned (c .fields) f i ≡ true
@@ -281,36 +285,56 @@ module _ (s : List ℕ) (len : ℕ) (c : Category) (w : Forms c) (gs : List ℕ)
   either-means f i q u false h = done-none s len (start i) q (getD trs i []) h
 
   -- field by field, where the items were read
+  module _ (q : ℕ) (h : itemsAt s len (layoutOf c gs) p ≡ got trs q) (n : ℕ) (l : n < length (c .fields)) where
+    abbrev f : Form
+    f = getD (c .fields) n Form.Spare
+
+    own : owned (c .fields) f n ≡ true
+    own = rw zero-add at (owns-at (c .fields) (c .fields) 0 n (w .own) l)
+
+    there : itemAt s len (pick (getD (flags gs) n false) (format (layout f)) done) (start n) ≡ got (getD trs n []) (start (suc n))
+    unfolding layoutOf
+    there = rw (format-at (flags gs) (c .fields) n l) at (items-there s len (layoutOf c gs) p q trs h n)
+
+    value-means : pick (getD (flags gs) n false) (traceOf s (itemIn t f)) [] ≡ getD trs n []
+    value-means = either-means f n (start (suc n)) own (getD (flags gs) n false) there
+
+    -- what a marked field has: an item that was read, and that is the typed record's
+    pub item-read : getD (flags gs) n false ≡ true
+        → (itemAt s len (format (layout f)) (start n) ≡ got (getD trs n []) (start (suc n)))
+        × (itemIn t f ≡ itemOf f (getD trs n []) (start n + 1))
+    item-read m =
+        let e : itemAt s len (format (layout f)) (start n) ≡ got (getD trs n []) (start (suc n)) = rw m at there in
+        (e, field-item f n (start (suc n)) own (item-run s len (format (layout f)) (start n) (start (suc n)) (getD trs n []) e))
+
   values-mean : (q : ℕ) → itemsAt s len (layoutOf c gs) p ≡ got trs q → valuesOf s t (flags gs) (c .fields) ≡ trs
   unfolding layoutOf
-  values-mean q h =
-      values-each s t (flags gs) (c .fields) trs (items-long s len (layoutOf c gs) p q trs h) λ n l.
-      let own = rw zero-add at (owns-at (c .fields) (c .fields) 0 n (w .own) l) in
-      either-means (getD (c .fields) n Form.Spare) n (start (suc n)) own (getD (flags gs) n false)
-      (rw (format-at (flags gs) (c .fields) n l) at (items-there s len (layoutOf c gs) p q trs h n))
+  values-mean q h = values-each s t (flags gs) (c .fields) trs (items-long s len (layoutOf c gs) p q trs h) (value-means q h)
 
--- the specification of a record that was read, and its items
+-- the specification of a record that was read, and its items; neither is refused, and presence is not
 module _ (s : List ℕ) (len : ℕ) (c : Category) (at : ℕ) where
-  abbrev Parts : ℕ → Rec → Type 0
+  abbrev pub Parts : ℕ → Rec → Type 0
   Parts q r =
       (p : ℕ) × (specsAt s len (c .most - 1) at ≡ got (r .marks) p)
       × (itemsAt s len (layoutOf c (r .marks)) p ≡ got (r .items) q)
+      × (eqb (marksRefusal c (r .marks)) 0 ≡ true) × (present c (r .marks) (r .items) ≡ true)
 
   same-parts : (gs : List ℕ) (trs : List Trace) (p q' q : ℕ) (r : Rec) → got (record { marks = gs; items = trs }) q' ≡ got r q
-      → specsAt s len (c .most - 1) at ≡ got gs p → itemsAt s len (layoutOf c gs) p ≡ got trs q' → Parts q r
-  same-parts gs trs p q' q r end e e' =
+      → specsAt s len (c .most - 1) at ≡ got gs p → itemsAt s len (layoutOf c gs) p ≡ got trs q'
+      → eqb (marksRefusal c gs) 0 ≡ true → present c gs trs ≡ true → Parts q r
+  same-parts gs trs p q' q r end e e' z y =
       let is : record { marks = gs; items = trs } ≡ r = cc in
       let same : q' ≡ q = cc in
-      subst (Parts q) is (p, e, rw same at e')
+      subst (Parts q) is (p, e, rw same at e', z, y)
 
-  record-parts : (q : ℕ) (r : Rec) → recordAt s len c at ≡ got r q → Parts q r
+  pub record-parts : (q : ℕ) (r : Rec) → recordAt s len c at ≡ got r q → Parts q r
   unfolding recordAt
   record-parts q r h =
       let (gs, p, e, h') = through (specsAt s len (c .most - 1) at) h in
       let (z, h'') = pick-yes (eqb (marksRefusal c gs) 0) _ _ h' in
       let (trs, q', e', last) = through (itemsAt s len (layoutOf c gs) p) h'' in
       let (y, end) = pick-yes (present c gs trs) presenceBroken (got (record { marks = gs; items = trs }) q') last in
-      same-parts gs trs p q' q r end e e'
+      same-parts gs trs p q' q r end e e' z y
 
 -- the record that a typed record means, by its parts
 rec-of : (s : List ℕ) (t : Record) (c : Category) (gs : List ℕ) (trs : List Trace) → category (t .category) ≡ c
@@ -332,7 +356,7 @@ module _ (s : List ℕ) (len n : ℕ) (c : Category) (w : Forms c) (t : Table n 
 
   means-at : Octets s → (at q : ℕ) (r : Rec) → recordAt s len c at ≡ got r q → recOf s (typedRec c r (itemsFrom s len c at)) ≡ r
   means-at o at q r h =
-      let (p, e, e') = record-parts s len c at q r h in
+      let (p, e, e', z, y) = record-parts s len c at q r h in
       let low : Sevens (r .marks) = subst (OfGot (λ gs q. Sevens gs)) e (specs-sevens s len o (c .most - 1) at) in
       let long : length (r .marks) ≡ c .most = omega (arith, specs-marked s len (c .most - 1) at (r .marks) p o e .long, t .some) in
       rw e (rec-means (r .marks) (r .items) p q low long e')

@@ -1,19 +1,20 @@
 -- The theorems on one record: it is read back as written, has one normal form, and its spare bits change nothing.
 -- Assumes nothing.
 use mathlib.Core.Path.{_≡_, refl, ap, subst}
-use mathlib.Core.Bool.{true}
+use mathlib.Core.Bool.{true, false}
 use mathlib.Core.List.{List, [], _∷_, _++_, append-assoc}
-use Prim.Native.Nat.{ℕ, suc, _+_, _-_, _≤_}
+use Prim.Native.Nat.{ℕ, zero, suc, _+_, _-_, _/_, _%_, _≤_}
 use native.Mathlib.Omega.{arith}
 use lib.Dec.{eqb}
 use lib.ListN.{length, getD, drop, length-append}
-use borrow.Author.Tests.{eqb-true}
+use borrow.Author.Tests.{eqb-true, eqb-false, eq-eqb}
+use Rattle.octets.specs.Choice.{odd}
 use Rattle.octets.specs.Numbers.{Octets}
 use Rattle.layouts.specs.Formats.{got, Format, Trace}
 use Rattle.layouts.specs.Categories.{Category}
 use Rattle.layouts.proofs.Answers.{both, through, OfGot}
 use Rattle.layouts.proofs.Formats.{put-length}
-use Rattle.blocks.specs.Specification.{putMarks}
+use Rattle.blocks.specs.Specification.{specs, putMarks}
 use Rattle.blocks.specs.Records.{Rec, layoutOf, putItems, recordOf, good, putRec, rewritten}
 use Rattle.blocks.proofs.RecordLaws.{Octets-tail, specs-put, record-any, record-held}
 
@@ -83,3 +84,19 @@ rest-octets c s r t o h =
     let w = record-held c s r t o h in
     let items = putItems (layoutOf c (r .marks)) (r .items) (w .bits) in
     Octets-tail items t (items ++ t) refl (Octets-tail (w .spec) (items ++ t) s (w .is) o)
+
+-- FX set, and the same marks
+more : (x : ℕ) → odd x ≡ false → (odd (x + 1) ≡ true) × ((x + 1) / 2 ≡ x / 2)
+more x h = let e = eqb-false (x % 2) 1 h in (eq-eqb ((x + 1) % 2) 1 (omega arith), omega arith)
+
+-- A second specification octet of zero reads as none: the marks, the items and what stands behind are the same.
+specs-zero : (n x : ℕ) (s : List ℕ) → odd x ≡ false → specs (suc n) ((x + 1) ∷ 0 ∷ s) ≡ specs (suc n) (x ∷ s)
+unfolding specs
+specs-zero zero x s h = rw (h, more x h .0, more x h .1)
+specs-zero (suc n) x s h = rw (h, more x h .0, more x h .1)
+
+pub second-zero : (c : Category) → 2 ≤ c .most → (x : ℕ) (s : List ℕ) → odd x ≡ false → recordOf c ((x + 1) ∷ 0 ∷ s) ≡ recordOf c (x ∷ s)
+unfolding recordOf
+second-zero c two x s h =
+    let e : c .most - 1 ≡ suc (c .most - 2) = omega arith in
+    rw (e, specs-zero (c .most - 2) x s h)

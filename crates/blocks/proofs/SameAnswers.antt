@@ -15,7 +15,7 @@ use Rattle.layouts.specs.Categories.{Category, category}
 use Rattle.layouts.proofs.Before.{SameBefore}
 use Rattle.blocks.specs.Headers.{headerOf}
 use Rattle.blocks.specs.Records.{Rec}
-use Rattle.blocks.specs.Blocks.{Block, with}
+use Rattle.blocks.specs.Blocks.{with, blockOf}
 use Rattle.blocks.specs.Offsets.{recordAt, firstAt, recordsAt}
 use Rattle.blocks.specs.Walks.{answerOf, readFrom, readOf}
 use Rattle.blocks.specs.Steps.{itemsFrom, stopOf, takeBy, stepFrom, stepBy, stepOf, entryValues, entryGroupOf, entryFrom, foundOf, entryBy, entryOf}
@@ -29,6 +29,7 @@ use Rattle.blocks.specs.declared.cursor.Found.{Found}
 use Rattle.blocks.proofs.HeaderLaws.{Headed, header-good}
 use Rattle.blocks.proofs.BeforeLaws.{specs-before, record-before, records-before}
 use Rattle.blocks.proofs.AlikeLaws.{record-alike-at}
+use Rattle.blocks.proofs.BoundaryLaws.{block-good}
 use Rattle.blocks.proofs.TypedLaws.{entry-values}
 use Rattle.blocks.proofs.StepLaws.{Took, step-took, ofStep, by-step}
 
@@ -117,6 +118,16 @@ module _ (s t : List ℕ) (first : (i : ℕ) → i < 3 → getD s i 0 ≡ getD t
       go (head.Refused n) e = refl
       go (head.Good cat len) e = ap (answerOf len) (h cat len e)
 
+  -- and the block has the same records
+  block-same : ((cat len : ℕ) → headerOf s ≡ Head.Good cat len → recordsAt s len (category cat) len 3 ≡ recordsAt t len (category cat) len 3)
+      → blockOf s ≡ blockOf t
+  unfolding blockOf
+  block-same h = go (headerOf s) refl
+    where
+      go : (x : Head) → headerOf s ≡ x → blockOf s ≡ blockOf t
+      go (head.Refused n) e = rw (e, ← same-header, e)
+      go (head.Good cat len) e = block-good s cat len e ∙ h cat len e ∙ sym (block-good t cat len (sym same-header ∙ e))
+
   -- Octets after LEN are not read.
   module _ (before : SameBefore (number 2 s 1) s t) where
     before-len : (cat len : ℕ) → headerOf s ≡ Head.Good cat len → SameBefore len s t
@@ -124,6 +135,9 @@ module _ (s t : List ℕ) (first : (i : ℕ) → i < 3 → getD s i 0 ≡ getD t
 
     pub read-after-len : readOf s ≡ readOf t
     read-after-len = read-same (λ cat len e. records-before len s t (before-len cat len e) (category cat) len 3)
+
+    pub block-after-len : blockOf s ≡ blockOf t
+    block-after-len = block-same (λ cat len e. records-before len s t (before-len cat len e) (category cat) len 3)
 
     after-len : (start : ℕ) → SameRecord s t start
     after-len start = record {
@@ -153,6 +167,9 @@ module _ (s t : List ℕ) (first : (i : ℕ) → i < 3 → getD s i 0 ≡ getD t
 
   pub read-alike : ((cat len : ℕ) → headerOf s ≡ Head.Good cat len → RecordsAlikeAt s t len (category cat) len 3) → readOf s ≡ readOf t
   read-alike h = read-same (λ cat len e. records-alike len (category cat) len 3 (h cat len e))
+
+  pub block-alike : ((cat len : ℕ) → headerOf s ≡ Head.Good cat len → RecordsAlikeAt s t len (category cat) len 3) → blockOf s ≡ blockOf t
+  block-alike h = block-same (λ cat len e. records-alike len (category cat) len 3 (h cat len e))
 
   module _ (start : ℕ) (h : (cat len : ℕ) → headerOf s ≡ Head.Good cat len → RecordAlikeAt s t len (category cat) start) where
     alike : SameRecord s t start

@@ -69,7 +69,7 @@ in-turn form.Purpose = refl
 same-turn : (f g : Form) → turn f ≡ turn g → f ≡ g
 same-turn f g h = sym (in-turn f) ∙ ap (λ (n : ℕ). getD forms n Form.Spare) h ∙ in-turn g
 
-field-form : (fs : List Form) (f : Form) (n : ℕ) → fieldFor fs f ≡ suc n → getD fs n Form.Spare ≡ f
+pub field-form : (fs : List Form) (f : Form) (n : ℕ) → fieldFor fs f ≡ suc n → getD fs n Form.Spare ≡ f
 field-form [] f n h = absurd (omega arith)
 field-form (g ∷ fs) f n h = go (eqb (turn g) (turn f)) refl (fieldFor fs f) (field-form fs f) h
   where

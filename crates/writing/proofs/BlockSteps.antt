@@ -1,0 +1,63 @@
+-- CAT and LEN in front of the records, and the answer that goes with an outcome. Assumes nothing.
+use mathlib.Core.Path.{_≡_, refl, ap, _∙_}
+use mathlib.Core.List.{List, [], _∷_}
+use Prim.Native.Nat.{ℕ, suc, _+_, _≤_, _<_}
+use native.Mathlib.Omega.{arith}
+use borrow.Author.Tests.{lt-ltb, le-ltb}
+use lib.ListN.{length, set, length-append}
+use Rattle.octets.specs.Numbers.{octets, laid}
+use Rattle.octets.specs.Refusals.{outputTooShort}
+use Rattle.octets.proofs.Numbers.{length-octets}
+use Rattle.octets.proofs.Laying.{laid-laid, length-laid}
+use Rattle.layouts.specs.Categories.{category}
+use Rattle.blocks.specs.Records.{Rec}
+use Rattle.blocks.specs.Blocks.{putRecs, putBlock}
+use Rattle.writing.specs.Written.{Outcome, no, block, within, answerOf, outputOf, listedWritten, outcomeListed, headerOctets}
+use Rattle.writing.specs.declared.block.Written.{Written}
+
+-- an octet stored, and others laid behind it
+pub first-laid : (l : List ℕ) (x : ℕ) (p : List ℕ) → 0 < length l → laid (set l 0 x) 1 p ≡ laid l 0 (x ∷ p)
+unfolding laid
+first-laid [] x p h = absurd (omega arith)
+first-laid (y ∷ l) x p h =
+    let a : 1 + length p ≡ suc (length p) = omega arith in
+    let b : 0 + suc (length p) ≡ suc (length p) = omega arith in
+    rw (a, b)
+
+pub header-long : (number len : ℕ) → length (headerOctets number len) ≡ 3
+header-long number len = ap suc (length-octets 2 len)
+
+-- How many octets a block has.
+pub block-long : (cat : ℕ) (rs : List Rec) → length (putBlock cat rs) ≡ length (putRecs (category cat) rs) + 3
+unfolding putBlock
+block-long cat rs = rw (length-append, length-octets) (omega arith)
+
+-- the header, and the records behind it
+pub block-laid : (l : List ℕ) (cat : ℕ) (rs : List Rec) (n : ℕ) → n ≡ length (putRecs (category cat) rs) → n + 3 ≤ length l
+    → laid (laid l 0 (headerOctets cat (n + 3))) 3 (putRecs (category cat) rs) ≡ laid l 0 (putBlock cat rs)
+unfolding putBlock
+block-laid l cat rs n e h =
+    let body = putRecs (category cat) rs in
+    let three : 0 + length (headerOctets cat (n + 3)) ≡ 3 = omega (arith, header-long cat (n + 3)) in
+    let same : n + 3 ≡ 3 + length body = omega arith in
+    (rw three at (laid-laid l 0 (headerOctets cat (n + 3)) body (omega arith))) ∙ rw same
+
+pub header-same : (l l' : List ℕ) (number len : ℕ) → 3 ≤ length l → l' ≡ laid l 0 (headerOctets number len) → length l' ≡ length l
+header-same l l' number len h e = rw e (length-laid l 0 (headerOctets number len) (omega (arith, header-long number len)))
+
+-- The answer and the output
+
+-- what a function that writes says of its outcome
+abbrev pub Says : List ℕ → List ℕ → Written → Outcome → Type 0
+Says l l' r x = (l' ≡ outputOf l x) × (r ≡ answerOf x) × (listedWritten r ≡ outcomeListed x)
+
+pub says-no : (l : List ℕ) (x : Outcome) (n : ℕ) → x ≡ no n → Says l l (Written.Refused n) (within (length l) x)
+says-no l x n e = rw e (refl, refl, refl)
+
+pub says-short : (l : List ℕ) (x : Outcome) (xs : List ℕ) → x ≡ block xs → length l < length xs
+    → Says l l (Written.Refused outputTooShort) (within (length l) x)
+says-short l x xs e h = rw (e, lt-ltb (length l) (length xs) h) (refl, refl, refl)
+
+pub says-block : (l : List ℕ) (x : Outcome) (xs : List ℕ) (n : ℕ) → x ≡ block xs → length xs ≡ n → n ≤ length l
+    → (l' : List ℕ) → l' ≡ laid l 0 xs → Says l l' (Written.Octets n) (within (length l) x)
+says-block l x xs n e k h l' is = rw (e, ← k, le-ltb (length l) (length xs) (omega arith)) (is, refl, refl)

@@ -1,0 +1,12 @@
+pub mod MarksWritten
+pub mod ItemsWritten
+pub mod OctetsWritten
+pub mod RecordWritten
+pub mod Reread
+pub mod GoodLaws
+pub mod BlockSteps
+pub mod RewriteSteps
+pub mod RewriteTheorems
+pub mod WriteTheorems
+pub mod WriteSteps
+pub mod ReadBackTheorems

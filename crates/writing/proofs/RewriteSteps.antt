@@ -1,0 +1,236 @@
+-- A block rewritten: what the definitions say of the case that a branch of the code is in. Assumes nothing.
+use mathlib.Core.Path.{_≡_, refl, sym, ap, _∙_}
+use mathlib.Core.Bool.{true}
+use mathlib.Core.List.{List, [], _++_}
+use Prim.Native.Nat.{ℕ, _+_, _≤_, _<_}
+use native.Mathlib.Nat.{zero-add}
+use native.Mathlib.Omega.{arith}
+use lib.ListN.{length, length-append}
+use Rattle.octets.specs.Numbers.{Octets, number, octets, laid}
+use Rattle.octets.specs.Refusals.{outputTooShort}
+use Rattle.octets.proofs.Laying.{laid-none, laid-laid, length-laid}
+use Rattle.layouts.specs.Formats.{Answer, refused, got}
+use Rattle.layouts.specs.Categories.{known, category}
+use Rattle.items.specs.declared.item.Size.{Size}
+use Rattle.blocks.specs.Records.{Rec}
+use Rattle.blocks.specs.Blocks.{Block, wrong, all, blockOf, putRecs, putBlock}
+use Rattle.blocks.specs.Offsets.{recordAt}
+use Rattle.blocks.specs.Typed.{typedRec}
+use Rattle.blocks.specs.Steps.{itemsFrom, takenBy, takeBy, takeOf}
+use Rattle.blocks.specs.Walks.{answerOf, readOf}
+use Rattle.blocks.specs.declared.record.Record.{Record}
+use Rattle.blocks.specs.declared.cursor.Cursor.{Cursor}
+use Rattle.blocks.specs.declared.cursor.Step.{Step}
+use Rattle.blocks.specs.declared.walk.Reading.{Reading}
+use Rattle.blocks.proofs.ReadSteps.{record-within}
+use Rattle.blocks.proofs.ListedLaws.{read-block}
+use Rattle.writing.specs.Judged.{recordRefusal, recordOctets, recordSize}
+use Rattle.writing.specs.Written.{no, block, within, rewriteFrom, rewriteOf, headerOctets, goodAt}
+use Rattle.writing.specs.declared.block.Written.{Written}
+use Rattle.writing.proofs.Reread.{read-judged, read-octets}
+use Rattle.writing.proofs.GoodLaws.{good-end, good-refused, good-step, good-short, Accepted}
+use Rattle.writing.proofs.BlockSteps.{block-long, block-laid, header-same, Says, says-short, says-block}
+
+-- One step
+
+not-taken : {n at : ℕ} {t : Record} {c : Cursor} → Step.Refused n at ≡ Step.Taken t c → ⊥
+not-taken h = let z : _≡_ {A = ℕ} 0 1 = cc in omega arith
+
+module _ (s : List ℕ) (len number at : ℕ) where
+  -- what a step that was taken says
+  record Took (t : Record) (next : ℕ) : Type 0 where
+    r : Rec
+    is : recordAt s len (category number) at ≡ got r next
+    same : t ≡ typedRec (category number) r (itemsFrom s len (category number) at)
+
+  -- a step, by what is read there
+  abbrev stepBy : Answer ℕ Rec → Step
+  stepBy = takenBy Step.Refused (λ t q. Step.Taken t (record { at = q })) (category number) at (itemsFrom s len (category number) at)
+
+  take-took : (t : Record) (c : Cursor) → takeOf s len number at ≡ Step.Taken t c → Took t (c .at)
+  unfolding takeOf takeBy
+  take-took t c = go (recordAt s len (category number) at) refl
+    where
+      go : (a : Answer ℕ Rec) → recordAt s len (category number) at ≡ a → stepBy a ≡ Step.Taken t c → Took t (c .at)
+      go (refused n) e h = absurd (not-taken h)
+      go (got r q) e h = record { r = r; is = e ∙ cc; same = cc }
+
+  take-stopped : (n p : ℕ) → takeOf s len number at ≡ Step.Refused n p → recordAt s len (category number) at ≡ refused n
+  unfolding takeOf takeBy
+  take-stopped n p = go (recordAt s len (category number) at) refl
+    where
+      go : (a : Answer ℕ Rec) → recordAt s len (category number) at ≡ a → stepBy a ≡ Step.Refused n p → recordAt s len (category number) at ≡ refused n
+      go (refused m) e h = e ∙ cc
+      go (got r q) e h = absurd (not-taken (sym h))
+
+-- A record's size
+
+module _ (s : List ℕ) (t : Record) (fine : recordRefusal s t ≡ 0) where
+  size-fine : recordSize s t ≡ Size.Octets (length (recordOctets s t))
+  unfolding recordSize
+  size-fine = rw fine
+
+  size-is : (n : ℕ) → Size.Octets n ≡ recordSize s t → n ≡ length (recordOctets s t)
+  size-is n h = let e = h ∙ size-fine in cc
+
+  size-not : (n : ℕ) → Size.Refused n ≡ recordSize s t → ⊥
+  size-not n h = let e = h ∙ size-fine in let z : _≡_ {A = ℕ} 0 1 = cc in omega arith
+
+-- The octets of the records from an offset on, in normal form
+module _ (s : List ℕ) (len number : ℕ) where
+  abbrev pub rest : ℕ → List ℕ
+  rest at = putRecs (category number) (goodAt s len (category number) len at)
+
+  rest-end : (at : ℕ) → len ≤ at → rest at ≡ []
+  unfolding putRecs
+  rest-end at h = rw (good-end s len (category number) len at h)
+
+  rest-stopped : (at n p : ℕ) → takeOf s len number at ≡ Step.Refused n p → rest at ≡ []
+  unfolding putRecs
+  rest-stopped at n p h = rw (good-refused s len (category number) len at n (take-stopped s len number at n p h))
+
+  -- a record that is taken
+  pub record Next (at : ℕ) (t : Record) (next : ℕ) : Type 0 where
+    pub forward : at < next
+    pub within : next ≤ len
+    pub fine : recordRefusal s t ≡ 0
+    pub is : rest at ≡ recordOctets s t ++ rest next
+
+  pub rest-next : Octets s → len ≤ length s → known number ≡ true → (at : ℕ) → at < len
+      → (t : Record) (c : Cursor) → takeOf s len number at ≡ Step.Taken t c → Next at t (c .at)
+  unfolding putRecs
+  rest-next o fit k at more t c h =
+      let w = take-took s len number at t c h in
+      let e = w .is in
+      let (l, m) = record-within s len (category number) o at (c .at) (w .r) e in
+      record {
+        forward = l;
+        within = m;
+        fine = read-judged s len number at o fit k (w .r) (c .at) e t (w .same);
+        is =
+            rw (good-step s len (category number) o len at (w .r) (c .at) more (omega arith) e)
+            (ap (λ (x : List ℕ). x ++ rest (c .at)) (sym (read-octets s len number at o fit k (w .r) (c .at) e t (w .same))));
+      }
+
+  -- Counting: the octets so far, and those of the records from an offset on
+  pub record Counted (total at : ℕ) : Type 0 where
+    pub within : at ≤ len
+    pub all : total + length (rest at) ≡ length (rest 3)
+
+  pub counted-none : 3 ≤ len → Counted 0 3
+  counted-none h = record { within = h; all = zero-add _ }
+
+  counted-last : (total at : ℕ) → Counted total at → rest at ≡ [] → total ≡ length (rest 3)
+  counted-last total at w e = let z : length (rest at) ≡ 0 = rw e in omega (arith, w .all)
+
+  pub counted-end : (total at : ℕ) → Counted total at → len ≤ at → total ≡ length (rest 3)
+  counted-end total at w h = counted-last total at w (rest-end at h)
+
+  pub counted-stopped : (total at : ℕ) → Counted total at → (n p : ℕ) → takeOf s len number at ≡ Step.Refused n p → total ≡ length (rest 3)
+  counted-stopped total at w n p h = counted-last total at w (rest-stopped at n p h)
+
+  -- Writing: the octets from an offset on are still to be laid
+  pub record Put (out₀ out : List ℕ) (p at : ℕ) : Type 0 where
+    pub within : at ≤ len
+    pub long : length out ≡ length out₀
+    pub all : p + length (rest at) ≡ 3 + length (rest 3)
+    pub is : laid out p (rest at) ≡ laid out₀ 3 (rest 3)
+
+  pub put-none : (out : List ℕ) → 3 ≤ len → Put out out 3 3
+  put-none out h = record { within = h; long = refl; all = refl; is = refl }
+
+  put-last : (out₀ out : List ℕ) (p at : ℕ) → Put out₀ out p at → rest at ≡ [] → out ≡ laid out₀ 3 (rest 3)
+  unfolding octets
+  put-last out₀ out p at w e = sym (laid-none out p 0) ∙ ap (laid out p) (sym e) ∙ w .is
+
+  pub put-end : (out₀ out : List ℕ) (p at : ℕ) → Put out₀ out p at → len ≤ at → out ≡ laid out₀ 3 (rest 3)
+  put-end out₀ out p at w h = put-last out₀ out p at w (rest-end at h)
+
+  pub put-stopped : (out₀ out : List ℕ) (p at : ℕ) → Put out₀ out p at → (n q : ℕ) → takeOf s len number at ≡ Step.Refused n q
+      → out ≡ laid out₀ 3 (rest 3)
+  put-stopped out₀ out p at w n q h = put-last out₀ out p at w (rest-stopped at n q h)
+
+  module _ (o : Octets s) (fit : len ≤ length s) (k : known number ≡ true) (at : ℕ) (more : at < len)
+      (t : Record) (c : Cursor) (taken : takeOf s len number at ≡ Step.Taken t c) where
+    abbrev next : Next at t (c .at)
+    next = rest-next o fit k at more t c taken
+
+    next-long : length (rest at) ≡ length (recordOctets s t) + length (rest (c .at))
+    next-long = rw (next .is, length-append)
+
+    pub counted-refused : (n : ℕ) → Size.Refused n ≡ recordSize s t → ⊥
+    counted-refused = size-not s t (next .fine)
+
+    pub counted-more : (total n : ℕ) → Counted total at → Size.Octets n ≡ recordSize s t
+        → (at < c .at) × (total + n ≤ length (rest 3)) × Counted (total + n) (c .at)
+    counted-more total n w h =
+        let is = size-is s t (next .fine) n h in
+        let a = w .all in
+        let l = next-long in
+        (next .forward, omega arith, record { within = next .within; all = omega arith })
+
+    module _ (out₀ out : List ℕ) (p : ℕ) (w : Put out₀ out p at) (room : 3 + length (rest 3) ≤ length out₀) where
+      pub put-room : (recordRefusal s t ≡ 0) × (p + length (recordOctets s t) ≤ length out)
+      put-room = (next .fine, omega (arith, w .all, w .long, next-long))
+
+      pub put-more : (out' : List ℕ) (p' : ℕ) → out' ≡ laid out p (recordOctets s t) → p' ≡ p + length (recordOctets s t)
+          → (at < c .at) × Put out₀ out' p' (c .at)
+      put-more out' p' e f =
+          let fits = put-room .1 in (
+            next .forward,
+            record {
+              within = next .within;
+              long = rw e (length-laid out p (recordOctets s t) fits ∙ w .long);
+              all = omega (arith, w .all, next-long);
+              is =
+                  rw (e, f)
+                  (laid-laid out p (recordOctets s t) (rest (c .at)) fits ∙ ap (laid out p) (sym (next .is)) ∙ w .is);
+            },
+          )
+
+-- The whole block
+
+not-refused : {n at len count : ℕ} → Reading.Accepted len count ≡ Reading.Refused n at → ⊥
+not-refused h = let z : _≡_ {A = ℕ} 0 1 = cc in omega arith
+
+pub rewrite-refused : (s : List ℕ) (n at : ℕ) → readOf s ≡ Reading.Refused n at → rewriteOf s ≡ no n
+unfolding rewriteOf
+rewrite-refused s n at h = go (blockOf s) (sym (read-block s) ∙ h)
+  where
+    go : (b : Block) → answerOf (number 2 s 1) b ≡ Reading.Refused n at → rewriteFrom b ≡ no n
+    go (wrong m p) h = ap no (cc)
+    go (all cat rs) h = absurd (not-refused h)
+
+-- of an accepted block, the octets that are counted and laid
+module _ (s : List ℕ) (cat len : ℕ) (o : Octets s) (w : Accepted s cat len) (n : ℕ) (is : n ≡ length (rest s len cat 3)) where
+  abbrev whole : List ℕ
+  whole = putBlock cat (goodAt s len (category cat) len 3)
+
+  rewrite-is : rewriteOf s ≡ block whole
+  unfolding rewriteOf
+  rewrite-is = ap rewriteFrom (w .is)
+
+  whole-long : length whole ≡ n + 3
+  whole-long = rw is (block-long cat (goodAt s len (category cat) len 3))
+
+  -- rewriting never lengthens
+  pub rewrite-low : n + 3 ≤ len
+  rewrite-low = omega (arith, is, good-short s len (category cat) o (w .fits) len 3 (omega (arith, w .least)))
+
+  pub rewrite-short : (l : List ℕ) → length l < n + 3
+      → Says l l (Written.Refused outputTooShort) (within (length l) (rewriteOf s))
+  rewrite-short l h = says-short l (rewriteOf s) whole rewrite-is (omega (arith, whole-long))
+
+  -- the header, and then the records
+  module _ (l l₁ : List ℕ) (h : n + 3 ≤ length l) (e : l₁ ≡ laid l 0 (headerOctets cat (n + 3))) where
+    pub rewrite-room : 3 + length (rest s len cat 3) ≤ length l₁
+    rewrite-room = omega (arith, is, header-same l l₁ cat (n + 3) (omega arith) e)
+
+    module _ (l₂ : List ℕ) (f : l₂ ≡ laid l₁ 3 (rest s len cat 3)) where
+      pub rewrite-same : length l₂ ≡ length l
+      rewrite-same = rw f (length-laid l₁ 3 (rest s len cat 3) rewrite-room ∙ header-same l l₁ cat (n + 3) (omega arith) e)
+
+      pub rewrite-whole : Says l l₂ (Written.Octets (n + 3)) (within (length l) (rewriteOf s))
+      rewrite-whole =
+          says-block l (rewriteOf s) whole (n + 3) rewrite-is whole-long h l₂
+          (f ∙ rw e (block-laid l cat (goodAt s len (category cat) len 3) n is h))
