@@ -4,7 +4,7 @@ import os
 import sys
 
 HERE = os.path.dirname(os.path.abspath(__file__))
-CASES = {'read': 400, 'step': 400, 'entry': 400}
+CASES = {'read': 400, 'step': 400, 'entry': 400, 'rewrite': 400, 'write': 400}
 
 # The cells of a record as the program writes them: an item, and its value's name in the stored cases.
 CELLS = [
@@ -20,11 +20,22 @@ FIELDS = {
     23: {1: '010', 2: '000', 3: '015', 4: 'time', 5: '100', 6: '101', 7: '200', 8: '110', 9: 'entries', 13: 'RE', 14: 'SP'},
     65: {1: '010', 2: '000', 3: '015 of 65', 4: 'time', 5: '020', 6: '040', 7: '050', 13: 'RE', 14: 'SP'},
     242: {1: '010', 2: 'time', 3: 'entries', 6: 'SP', 7: 'RE'},
-    0: {},
 }
 
-# A block of the most octets that whole category 23 records of five octets fill, and its answer: LEN 65,533, 13,106 records.
-LARGE = [('read 17FFFD 13106*5002000000', [0, 0, 65533, 13106])]
+# A value that is wider than its place in the typed record cannot be said; item 110 has no extension there.
+WIDEST = {'time': 2 ** 32 - 1, 'first': 2 ** 64 - 1, 'n': 2 ** 64 - 1}
+NO_EXTENSION = ('110', 'ext')
+
+# The room of an output that is large enough for any block.
+ENOUGH = 65540
+
+# A block of the most octets that whole category 23 records of five octets fill: LEN 65,533, 13,106 records. One whose records have a
+# second specification octet of zero: LEN 65,535, 10,922 records, and 54,613 octets in normal form.
+LARGE = [
+    ('read 17FFFD 13106*5002000000', '0 0 65533 13106'),
+    ('rewrite 65533 17FFFD 13106*5002000000', '0 65533 1 17FFFD' + '5002000000' * 13106),
+    ('rewrite 54613 17FFFF 10922*510002000000', '0 54613 1 17D555' + '5002000000' * 10922),
+]
 
 
 def must(holds, text):
@@ -32,42 +43,78 @@ def must(holds, text):
         sys.exit('vectors.py: ' + text)
 
 
+def items_of(record):
+    """The item of each field that has values. A category that is not read has the items of one that is, by the names of the values."""
+    given = {int(field): named for field, named in record['fields'].items() if named}
+    for items in [FIELDS[record['cat']]] if record['cat'] in FIELDS else FIELDS.values():
+        if all(field in items and all((items[field], name) in CELLS + [NO_EXTENSION] for name in named) for field, named in given.items()):
+            return items
+    must(False, 'no cells for %s' % record)
+
+
+def values_of(record):
+    """Each value of a record, by its item and its name."""
+    items = items_of(record)
+    return {(items[int(field)], name): value for field, named in record['fields'].items() for name, value in named.items()}
+
+
+def is_held(record):
+    """Whether the typed record can hold each value."""
+    return all(value <= (0 if cell == NO_EXTENSION else WIDEST.get(cell[1], 255)) for cell, value in values_of(record).items())
+
+
 def record_cells(record):
     """Category, marks (bit f - 1 for field f) and all cells; zero where the stored record has nothing."""
-    marks, values = 0, {}
-    for field, named in record['fields'].items():
-        item = FIELDS[record['cat']][int(field)]
-        marks |= 1 << (int(field) - 1)
-        for name, value in named.items():
-            if (item, name) == ('110', 'ext'):
-                must(value == 0, 'item 110 has no extension')
-                continue
-            must((item, name) in CELLS, 'no cell for %s of item %s' % (name, item))
-            values[item, name] = value
-    return [record['cat'], marks] + [values.get(cell, 0) for cell in CELLS]
+    must(is_held(record), 'no record holds %s' % record)
+    marks, values = sum(1 << (int(field) - 1) for field in record['fields']), values_of(record)
+    return numbers([record['cat'], marks] + [values.get(cell, 0) for cell in CELLS])
+
+
+def numbers(values):
+    return ' '.join(str(n) for n in values)
+
+
+def written(case):
+    """Number, length, 1 as the octets behind the length have to stay, and the octets."""
+    out = case['out'].upper()
+    return ('%d %d 1 %s' % (case['number'], len(out) // 2, out)).rstrip()
 
 
 def line_and_answer(case):
+    if case['op'] in ('rewrite', 'write'):
+        room = ENOUGH if case['room'] is None else case['room']
+        if case['op'] == 'rewrite':
+            return 'rewrite %d %s' % (room, case['in']), written(case)
+        return 'write %d %s %s' % (room, record_cells(case['record']), case['source']), written(case)
     number, offset, octets = case['number'], case['offset'], case['in']
     if case['op'] == 'read':
-        return 'read ' + octets, [number, offset, case['len'], case['count']]
+        return 'read ' + octets, numbers([number, offset, case['len'], case['count']])
     if case['op'] == 'step':
-        return 'step %d %s' % (case['start'], octets), [number, offset, case['next']] + record_cells(case['record'])
+        return 'step %d %s' % (case['start'], octets), numbers([number, offset, case['next']]) + ' ' + record_cells(case['record'])
     entry = case['entry']
     names = {0: (), 3: ('type', 'ref', 'count') if 'type' in entry else ('cat', 'main', 'sub')}[len(entry)]
     values = [entry[name] for name in names] if names else [0, 0, 0]
-    return 'entry %d %d %s' % (case['start'], case['k'], octets), [number, offset] + values
+    return 'entry %d %d %s' % (case['start'], case['k'], octets), numbers([number, offset] + values)
+
+
+def is_sayable(case):
+    """A record that no typed record holds cannot be handed over; its answer has to be 11."""
+    if case['op'] != 'write' or is_held(case['record']):
+        return True
+    must(case['number'] == 11 and case['out'] == '', 'a value that is too wide gets %d' % case['number'])
+    return False
 
 
 def stored():
-    """The cases of each operation, and the large block."""
+    """The cases of each operation, with how many of the stored ones are left out, and the large blocks."""
     for op, count in CASES.items():
         with open(os.path.join(HERE, 'base', op + '.jsonl')) as f:
             cases = [json.loads(line) for line in f]
         must(len(cases) == count, '%s: %d cases are stored, not %d' % (op, len(cases), count))
         must(all(case['op'] == op for case in cases), 'a case of %s.jsonl is of another operation' % op)
-        yield op, [line_and_answer(case) for case in cases]
-    yield 'large block', LARGE
+        said = [line_and_answer(case) for case in cases if is_sayable(case)]
+        yield op, said, count - len(said)
+    yield 'large blocks', LARGE, 0
 
 
 def judge(path):
@@ -75,24 +122,24 @@ def judge(path):
         wrote = f.read().split('\n')
     must(wrote.pop() == '', 'the last line that was written has no end')
     groups = list(stored())
-    asked = sum(len(cases) for _, cases in groups)
+    asked = sum(len(cases) for _, cases, _ in groups)
     must(len(wrote) == asked, '%d lines were written for %d cases' % (len(wrote), asked))
     at, wrong = 0, 0
-    for op, cases in groups:
+    for op, cases, left_out in groups:
         differ = 0
-        for line, answer in cases:
-            expected = ' '.join(str(n) for n in answer)
+        for line, expected in cases:
             if wrote[at] != expected:
                 differ += 1
-                print('%s\n  expected %s\n  wrote    %s' % (line, expected, wrote[at]))
+                print('%s\n  expected %.400s\n  wrote    %.400s' % (line, expected, wrote[at]))
             at += 1
-        print('%s: %d case%s, %d differences' % (op, len(cases), 's' * (len(cases) > 1), differ))
+        note = ' (%d have a value that the typed record cannot hold)' % left_out if left_out else ''
+        print('%s: %d cases, %d differences%s' % (op, len(cases), differ, note))
         wrong += differ
     return 1 if wrong else 0
 
 
 if sys.argv[1:] == ['lines']:
-    for _, cases in stored():
+    for _, cases, _ in stored():
         for line, _ in cases:
             print(line)
 elif len(sys.argv) == 3 and sys.argv[1] == 'judge':

@@ -2,13 +2,13 @@
 -- Assumes nothing.
 use mathlib.Core.Path.{_≡_, refl, sym, ap, _∙_, subst}
 use mathlib.Core.Bool.{Bool, true, false}
-use mathlib.Core.List.{List, [], _∷_, _++_, append-assoc, append-nil}
+use mathlib.Core.List.{List, [], _∷_, _++_, append-assoc}
 use Prim.Native.Nat.{ℕ, zero, suc, _+_, _*_, _≤_, _<_}
 use native.Mathlib.Omega.{arith}
 use lib.Dec.{ltb, eqb}
 use lib.ListN.{length, getD, take, length-append, length-take, List·getD-eq-default}
 use lib.Seq.{take-at, drop-at, getD-take}
-use borrow.Author.Tests.{ltb-true, ltb-false, le-ltb, eqb-true}
+use borrow.Author.Tests.{ltb-true, ltb-false, eqb-true}
 use Rattle.octets.specs.Choice.{pick}
 use Rattle.octets.specs.Numbers.{Octets, number, octets}
 use Rattle.octets.proofs.Numbers.{number-lt, number-octets, length-octets}
@@ -22,7 +22,7 @@ use Rattle.blocks.specs.Records.{Rec, recordOf, good, putRec}
 use Rattle.blocks.specs.Headers.{headerOf}
 use Rattle.blocks.specs.Blocks.{Block, wrong, all, with, first, records, blockFrom, blockOf, putRecs, allGood, putBlock}
 use Rattle.blocks.specs.declared.header.Head.{Head}
-use Rattle.blocks.proofs.HeaderLaws.{Headed, header-cases, header-fits}
+use Rattle.blocks.proofs.HeaderLaws.{header-cases, header-fits}
 use Rattle.blocks.proofs.RecordLaws.{record-held}
 use Rattle.blocks.proofs.RecordTheorems.{good-long, read-back, normal-short, rest-octets}
 
@@ -192,12 +192,3 @@ pub block-normal : (s : List ℕ) (cat : ℕ) (rs : List Rec) → Octets s → b
 block-normal s cat rs o h =
     let w = subst (OfAll (Sound s)) h (block-sound s o) in
     λ t. block-put cat rs t (w .known) (w .fine) (w .some) (omega (arith, w .short, number-lt 2 s 1 o))
-
--- Rewriting again changes nothing: the records of a block in normal form give the same octets.
-pub block-again : (s : List ℕ) (cat cat' : ℕ) (rs rs' : List Rec) → Octets s → blockOf s ≡ all cat rs
-    → blockOf (putBlock cat rs) ≡ all cat' rs' → putBlock cat' rs' ≡ putBlock cat rs
-block-again s cat cat' rs rs' o h h' =
-    let again : blockOf (putBlock cat rs) ≡ all cat rs = rw append-nil at (block-normal s cat rs o h []) in
-    let e : cat' ≡ cat = cc in
-    let f : rs' ≡ rs = cc in
-    rw (e, f)

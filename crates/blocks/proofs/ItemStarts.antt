@@ -1,16 +1,15 @@
 -- Where the items of a record start: each behind those before it, as many octets on as these have. Assumes nothing.
-use mathlib.Core.Path.{_≡_, refl, sym, ap, _∙_}
-use mathlib.Core.Bool.{true}
-use mathlib.Core.List.{List, [], _∷_, append-nil}
+use mathlib.Core.Path.{_≡_, refl, sym}
+use mathlib.Core.List.{List, [], _∷_}
 use Prim.Native.Nat.{ℕ, zero, suc, _+_, _-_}
 use native.Mathlib.Nat.{add-zero, add-assoc}
 use native.Mathlib.Omega.{arith}
 use lib.Dec.{ltb}
-use lib.ListN.{length, getD, take, drop, length-append}
+use lib.ListN.{length, getD, take, length-append}
 use Rattle.octets.specs.Numbers.{number}
 use Rattle.octets.proofs.Numbers.{length-octets}
 use Rattle.layouts.specs.Groups.{values}
-use Rattle.layouts.specs.Formats.{Answer, got, Format, done, stop, ask, Trace, fitsIn, put}
+use Rattle.layouts.specs.Formats.{got, Format, done, stop, ask, Trace, fitsIn, put}
 use Rattle.layouts.specs.Offsets.{runAt, itemAt}
 use Rattle.layouts.proofs.Answers.{got-refused, pick-no, through}
 use Rattle.blocks.specs.Records.{putItems}

@@ -20,4 +20,3 @@ pub mod StepLaws
 pub mod SameAnswers
 pub mod AtEnd
 pub mod RecordStarts
-pub mod Examples

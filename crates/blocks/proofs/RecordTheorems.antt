@@ -1,6 +1,6 @@
--- The theorems on one record: it is read back as written, has one normal form, and its spare bits change nothing.
+-- The theorems on one record: it is read back as written, its normal form is never longer, and its spare bits change nothing.
 -- Assumes nothing.
-use mathlib.Core.Path.{_≡_, refl, ap, subst}
+use mathlib.Core.Path.{_≡_, refl, ap}
 use mathlib.Core.Bool.{true, false}
 use mathlib.Core.List.{List, [], _∷_, _++_, append-assoc}
 use Prim.Native.Nat.{ℕ, zero, suc, _+_, _-_, _/_, _%_, _≤_}
@@ -12,10 +12,10 @@ use Rattle.octets.specs.Choice.{odd}
 use Rattle.octets.specs.Numbers.{Octets}
 use Rattle.layouts.specs.Formats.{got, Format, Trace}
 use Rattle.layouts.specs.Categories.{Category}
-use Rattle.layouts.proofs.Answers.{both, through, OfGot}
+use Rattle.layouts.proofs.Answers.{both}
 use Rattle.layouts.proofs.Formats.{put-length}
 use Rattle.blocks.specs.Specification.{specs, putMarks}
-use Rattle.blocks.specs.Records.{Rec, layoutOf, putItems, recordOf, good, putRec, rewritten}
+use Rattle.blocks.specs.Records.{Rec, layoutOf, putItems, recordOf, good, putRec}
 use Rattle.blocks.proofs.RecordLaws.{Octets-tail, specs-put, record-any, record-held}
 
 pub good-long : (c : Category) (r : Rec) → good c r ≡ true → length (r .marks) ≡ suc (c .most - 1)
@@ -30,26 +30,6 @@ unfolding putRec
 read-back c r h t =
     rw (append-assoc (putMarks (r .marks)) (putItems (layoutOf c (r .marks)) (r .items) []) t)
     (record-any c r (putMarks (r .marks)) (λ q. specs-put (c .most - 1) (r .marks) q (good-long c r h)) h [] t)
-
--- Normal form: what is accepted, rewritten, is accepted with the same values, whatever stands behind it.
-pub normal-same : (c : Category) (s : List ℕ) (r : Rec) (t : List ℕ) → Octets s → recordOf c s ≡ got r t
-    → (q : List ℕ) → recordOf c (putRec c r ++ q) ≡ got r q
-normal-same c s r t o h = read-back c r (record-held c s r t o h .fine)
-
--- Rewriting again changes nothing.
-pub normal-again : (c : Category) (s n t : List ℕ) → Octets s → rewritten c s ≡ got n t
-    → (q : List ℕ) → rewritten c (n ++ q) ≡ got n q
-unfolding rewritten
-normal-again c s n t o h q =
-    let (r, t', e, last) = through (recordOf c s) h in
-    let again : rewritten c (putRec c r ++ q) ≡ got (putRec c r) q = rw (normal-same c s r t' o e q) in
-    subst (OfGot (λ n t. rewritten c (n ++ q) ≡ got n q)) last again
-
--- Two records with equal values have the same rewriting.
-pub normal-one : (c : Category) (s s' : List ℕ) (r : Rec) (t t' : List ℕ) → recordOf c s ≡ got r t → recordOf c s' ≡ got r t'
-    → (rewritten c s ≡ got (putRec c r) t) × (rewritten c s' ≡ got (putRec c r) t')
-unfolding rewritten
-normal-one c s s' r t t' h h' = (rw h, rw h')
 
 -- Spare bits: the octets of an accepted record are its specification and its values with some spare bits; with any others
 -- they are the same record.

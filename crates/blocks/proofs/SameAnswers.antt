@@ -1,15 +1,13 @@
 -- Octets after LEN change no answer, and neither do spare bits: of reading, of a step, of an entry, refusals too. Assumes nothing.
 use mathlib.Core.Path.{_≡_, refl, sym, ap, _∙_}
-use mathlib.Core.Bool.{Bool, true, false, _||_}
+use mathlib.Core.Bool.{Bool, true, false}
 use mathlib.Core.List.{List}
 use Prim.Native.Nat.{ℕ, zero, suc, _-_, _<_, _≤_}
 use native.Mathlib.Omega.{arith}
 use borrow.Author.Tests.{le-ltb, leb-false}
-use lib.Dec.{leb, ltb, eqb}
+use lib.Dec.{leb}
 use lib.ListN.{length, getD}
-use Rattle.octets.specs.Choice.{pick}
 use Rattle.octets.specs.Numbers.{Octets, number}
-use Rattle.octets.specs.Refusals.{noSuch}
 use Rattle.layouts.specs.Formats.{Answer, refused, got}
 use Rattle.layouts.specs.Categories.{Category, category}
 use Rattle.layouts.proofs.Before.{SameBefore}
@@ -26,7 +24,7 @@ use Rattle.blocks.specs.declared.record.Record.{Record}
 use Rattle.blocks.specs.declared.cursor.Step.{Step}
 use Rattle.blocks.specs.declared.cursor.Step.the-variants as step
 use Rattle.blocks.specs.declared.cursor.Found.{Found}
-use Rattle.blocks.proofs.HeaderLaws.{Headed, header-good}
+use Rattle.blocks.proofs.HeaderLaws.{header-good}
 use Rattle.blocks.proofs.BeforeLaws.{specs-before, record-before, records-before}
 use Rattle.blocks.proofs.AlikeLaws.{record-alike-at}
 use Rattle.blocks.proofs.BoundaryLaws.{block-good}

@@ -33,8 +33,8 @@ use Rattle.blocks.specs.declared.cursor.Cursor.{Cursor}
 use Rattle.blocks.specs.declared.cursor.Step.{Step}
 use Rattle.blocks.specs.declared.cursor.Step.the-variants as step
 use Rattle.blocks.specs.declared.cursor.Found.{Found}
-use Rattle.blocks.proofs.HeaderLaws.{Headed, header-good}
-use Rattle.blocks.proofs.WalkSteps.{Table, table, Spec, spec-ended, run-one, run-none}
+use Rattle.blocks.proofs.HeaderLaws.{header-good}
+use Rattle.blocks.proofs.WalkSteps.{table, Spec, spec-ended, run-one, run-none}
 use Rattle.blocks.proofs.ListedLaws.{step-made}
 use Rattle.blocks.proofs.TypedLaws.{typed-good, entries-within}
 

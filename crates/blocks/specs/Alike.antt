@@ -3,16 +3,11 @@ use mathlib.Core.Path.{_≡_}
 use mathlib.Core.List.{List, [], _∷_}
 use Prim.Native.Nat.{ℕ, zero, suc, _-_}
 use Rattle.layouts.specs.Formats.{Answer, refused, got, Format}
-use Rattle.layouts.specs.Alike.{Alike, AlikeAt}
+use Rattle.layouts.specs.Alike.{AlikeAt}
 use Rattle.layouts.specs.Offsets.{itemAt}
 use Rattle.layouts.specs.Categories.{Category}
 use Rattle.blocks.specs.Records.{layoutOf}
 use Rattle.blocks.specs.Offsets.{specsAt, recordAt}
-
--- item by item, and the same octets behind the last
-abbrev pub AllAlike : List Format → List ℕ → List ℕ → Type 0
-AllAlike [] s t = s ≡ t
-AllAlike (f ∷ fs) s t = Alike f (AllAlike fs) s t
 
 -- of what was read, and of the offset behind it; of a refusal nothing
 abbrev pub IfGot : {A : Type 0} → Answer ℕ A → (A → ℕ → Type 0) → Type 0

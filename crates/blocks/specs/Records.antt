@@ -89,7 +89,3 @@ good c r =
 -- a record in normal form: no last specification octet that marks nothing, spare bits zero
 unfoldable pub putRec : Category → Rec → List ℕ
 putRec c r = putMarks (r .marks) ++ putItems (layoutOf c (r .marks)) (r .items) []
-
--- a record in normal form, and what stood behind it
-unfoldable pub rewritten : Category → List ℕ → Answer (List ℕ) (List ℕ)
-rewritten c s = andThen (recordOf c s) (λ r t. got (putRec c r) t)

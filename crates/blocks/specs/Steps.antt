@@ -21,7 +21,6 @@ use Rattle.blocks.specs.Typed.{absent, typedRec, typedOf}
 use Rattle.blocks.specs.declared.header.Head.{Head}
 use Rattle.blocks.specs.declared.header.Head.the-variants as head
 use Rattle.blocks.specs.declared.record.Record.{Record}
-use Rattle.blocks.specs.declared.cursor.Cursor.{Cursor}
 use Rattle.blocks.specs.declared.cursor.Step.{Step}
 use Rattle.blocks.specs.declared.cursor.Step.the-variants as step
 use Rattle.blocks.specs.declared.cursor.Found.{Found}

@@ -5,7 +5,7 @@ use Prim.Native.Nat.{ℕ, zero, suc, _+_, _-_}
 use lib.Dec.{eqb}
 use lib.ListN.{length, getD, take}
 use Rattle.octets.specs.Choice.{pick}
-use Rattle.layouts.specs.Formats.{Answer, refused, got, Trace}
+use Rattle.layouts.specs.Formats.{Trace}
 use Rattle.layouts.specs.Offsets.{traceAt}
 use Rattle.layouts.specs.Layouts.{format, kindOf}
 use Rattle.layouts.specs.Ends.{kindEnd}

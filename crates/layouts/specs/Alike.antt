@@ -1,20 +1,10 @@
--- Octets that differ only in the spare bits of an item: as many octets, and the same values in each group.
+-- Octets that differ only in the spare bits of an item: the same values in each group.
 use mathlib.Core.Path.{_≡_}
 use mathlib.Core.List.{List}
 use Prim.Native.Nat.{ℕ, _+_}
-use lib.ListN.{length, drop}
 use Rattle.octets.specs.Numbers.{number}
 use Rattle.layouts.specs.Groups.{values}
 use Rattle.layouts.specs.Formats.{Format, done, stop, ask}
-
--- and what stands behind the item is related by Rest
-abbrev pub Alike : Format → (List ℕ → List ℕ → Type 0) → List ℕ → List ℕ → Type 0
-Alike done Rest s t = Rest s t
-Alike (stop n) Rest s t = s ≡ t
-Alike (ask g k) Rest s t =
-    (length s ≡ length t)
-    × (values (g .parts) (number (g .wide) s 0) ≡ values (g .parts) (number (g .wide) t 0))
-    × Alike (k (values (g .parts) (number (g .wide) s 0))) Rest (drop (g .wide) s) (drop (g .wide) t)
 
 -- the same values in each group that the format asks for on its way from an offset
 abbrev pub AlikeAt : Format → List ℕ → List ℕ → ℕ → Type 0

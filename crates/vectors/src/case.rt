@@ -12,6 +12,10 @@ pub const STEP: u64 = 0x7374_6570;
 
 pub const ENTRY: u64 = 0x65_6E74_7279;
 
+pub const REWRITE: u64 = 0x72_6577_7269_7465;
+
+pub const WRITE: u64 = 0x77_7269_7465;
+
 // No digit waits for the other half of its octet.
 const NO_HALF: u8 = 16;
 
@@ -34,12 +38,12 @@ pub enum State {
     Wrong,
 }
 
-// A case: its operation, how many numbers are still to come, these numbers, and how many octets are in store.
+// A case: its operation, how many numbers it has so far, the first of them, those behind it, and how many octets are in store.
 pub struct Case {
     pub operation: u64,
-    pub wanted: u8,
-    pub start: usize,
-    pub k: usize,
+    pub given: usize,
+    pub first: usize,
+    pub cells: [u64; 36],
     pub len: usize,
 }
 
@@ -50,9 +54,9 @@ pub struct Line {
 
 const NO_CASE: Case = Case {
     operation: 0,
-    wanted: 0,
-    start: 0,
-    k: 0,
+    given: 0,
+    first: 0,
+    cells: [0; 36],
     len: 0,
 };
 
@@ -72,19 +76,26 @@ fn wrong() -> Line {
     }
 }
 
-// How many numbers stand before the octets; 3 for what is no operation.
-fn numbers_of(operation: u64) -> u8 {
+// How many numbers stand before the octets; 38 for what is no operation.
+fn numbers_of(operation: u64) -> usize {
     match operation {
         READ => 0,
         STEP => 1,
         ENTRY => 2,
-        _ => 3,
+        REWRITE => 1,
+        WRITE => 37,
+        _ => 38,
     }
 }
 
-// One letter more of the operation: ENTRY is the largest number, and what comes before `a` is no letter of any.
+// Whether a case has all its numbers.
+pub fn is_numbered(case: Case) -> bool {
+    numbers_of(case.operation) <= case.given
+}
+
+// One letter more of the operation: REWRITE is the largest number, and what comes before `a` is no letter of any.
 fn letter(letters: u64, c: u8) -> Line {
-    if ENTRY < letters {
+    if REWRITE < letters {
         return wrong();
     }
     if c < b'a' {
@@ -98,17 +109,11 @@ fn letter(letters: u64, c: u8) -> Line {
 
 // Behind the operation's letters.
 fn named(letters: u64) -> Line {
-    let wanted = numbers_of(letters);
-    if 2 < wanted {
+    if 37 < numbers_of(letters) {
         return wrong();
     }
-    let case = Case {
-        operation: letters,
-        wanted,
-        start: 0,
-        k: 0,
-        len: 0,
-    };
+    let mut case = NO_CASE;
+    case.operation = letters;
     Line {
         state: State::Between,
         case,
@@ -127,15 +132,16 @@ fn digit(case: Case, n: usize, c: u8) -> Line {
     }
 }
 
-// Behind a number: the second of an entry is the entry's, any other is the start.
+// Behind a number.
 fn numbered(mut case: Case, n: usize) -> Line {
-    if (case.operation == ENTRY) & (case.wanted == 1) {
-        case.k = n;
-    } else {
-        case.start = n;
+    let given = case.given;
+    if given == 0 {
+        case.first = n;
+    } else if given < 37 {
+        case.cells[given - 1] = n as u64;
     }
-    if 0 < case.wanted {
-        case.wanted -= 1;
+    if given < 37 {
+        case.given = given + 1;
     }
     Line {
         state: State::Between,
@@ -211,7 +217,7 @@ fn worded(store: &mut [u8], mut case: Case, word: Word) -> Line {
 
 // The first octet of a number, or of a word of octets.
 fn begun(store: &mut [u8], case: Case, c: u8) -> Line {
-    if 0 < case.wanted {
+    if !is_numbered(case) {
         return digit(case, 0, c);
     }
     let word = Word {

@@ -1,5 +1,6 @@
 // Digits, as the lines of cases have them.
 ghost use mathlib.Core.Path.{_≡_};
+ghost use Prim.Native.Nat.{_%_};
 ghost use Rattle.vectors.specs.Digits.{hexValue, withDigit};
 
 // A decimal number so far; none where what was read is no digit, or too many.
@@ -32,4 +33,16 @@ pub fn with_digit(n: usize, c: u8) -> Number
         return Number::Nothing;
     }
     Number::Value(n * 10 + d)
+}
+
+// The hex digit of the low half of an octet, in upper case.
+pub fn hex_digit(octet: u8) -> u8
+    ensures { λ r. ⌜ hexValue r ≡ octet % 16 ⌝ }
+{
+    let half = octet % 16;
+    if half < 10 {
+        b'0' + half
+    } else {
+        b'A' + (half - 10)
+    }
 }

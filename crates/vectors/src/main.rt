@@ -1,10 +1,12 @@
-// Runs the cases of standard input through the block layer, a line for each to standard output: `read OCTETS`, `step START OCTETS`,
-// `entry START K OCTETS`.
+// Runs the cases of standard input through the block layer and the writing over it, a line for each to standard output: `read OCTETS`,
+// `step START OCTETS`, `entry START K OCTETS`, `rewrite ROOM OCTETS`, `write ROOM CELLS OCTETS`.
 mod answer;
 mod case;
+mod cells;
 mod digits;
 mod store;
 mod text;
+mod written;
 
 use crate::case::Line;
 

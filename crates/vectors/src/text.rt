@@ -1,5 +1,6 @@
 // What is written, gathered so that one call writes much.
 ghost use mathlib.Core.Path.{_≡_};
+use crate::digits::hex_digit;
 
 // Writes what is gathered; gathering then begins anew.
 pub fn flush(text: &[u8], held: usize) -> usize
@@ -35,6 +36,11 @@ pub fn emit_all(text: &mut [u8], held: usize, octets: &[u8]) -> usize {
     at
 }
 
+// What is no case: a question mark and a blank.
+pub fn unknown(text: &mut [u8], held: usize) -> usize {
+    emit_all(text, held, b"? ")
+}
+
 // A number in decimal.
 pub fn number(text: &mut [u8], held: usize, n: u64) -> usize {
     let mut digits = [0u8; 20];
@@ -49,6 +55,19 @@ pub fn more(text: &mut [u8], held: usize, values: &[u64]) -> usize {
     while i < values.len() {
         at = emit(text, at, b' ');
         at = number(text, at, values[i]);
+        i += 1;
+    }
+    at
+}
+
+// Octets, two digits each.
+pub fn hex(text: &mut [u8], held: usize, octets: &[u8]) -> usize {
+    let mut at = held;
+    let mut i: usize = 0;
+    while i < octets.len() {
+        let octet = octets[i];
+        at = emit(text, at, hex_digit(octet / 16));
+        at = emit(text, at, hex_digit(octet));
         i += 1;
     }
     at

@@ -1,7 +1,7 @@
 -- A record judged and written, branch by branch. Assumes nothing.
 use mathlib.Core.Path.{_≡_, refl, sym, ap, _∙_}
 use mathlib.Core.Bool.{Bool, true, false}
-use mathlib.Core.List.{List, [], _∷_, _++_, append-nil}
+use mathlib.Core.List.{List, [], _∷_, append-nil}
 use Prim.Native.Nat.{ℕ, _+_, _≤_, _<_}
 use native.Mathlib.Omega.{arith}
 use borrow.Author.Tests.{eq-eqb, ne-eqb, eqb-true, eqb-false}
@@ -13,7 +13,6 @@ use Rattle.octets.specs.Refusals.{unknownCategory, presenceBroken}
 use Rattle.octets.proofs.Laying.{length-laid, laid-laid}
 use Rattle.layouts.specs.Categories.{known, category}
 use Rattle.items.specs.declared.item.Size.{Size}
-use Rattle.items.specs.declared.item.Size.the-variants as size
 use Rattle.blocks.specs.Specification.{putMarks}
 use Rattle.blocks.specs.Presence.{rowsOf, meets}
 use Rattle.blocks.specs.Marks.{flagsOf}

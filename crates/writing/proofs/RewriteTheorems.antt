@@ -1,7 +1,7 @@
 -- The theorems on rewriting: what it puts out is accepted with the same records, rewriting it again changes nothing, blocks with the same
 -- records have the same rewriting, and it is never longer than what was read. Assumes nothing.
 use mathlib.Core.Path.{_≡_, refl, sym, ap, _∙_, subst}
-use mathlib.Core.List.{List, [], _∷_, _++_, map, append-nil}
+use mathlib.Core.List.{List, _++_, map}
 use Prim.Native.Nat.{ℕ, _+_, _≤_, _<_}
 use native.Mathlib.Omega.{arith}
 use lib.ListN.{length, getD}
@@ -19,7 +19,7 @@ use Rattle.blocks.proofs.HeaderLaws.{header-good}
 use Rattle.blocks.proofs.BlockLaws.{OfAll, Sound, block-sound, block-normal, put-len}
 use Rattle.blocks.proofs.ListedLaws.{read-block}
 use Rattle.blocks.proofs.BoundaryLaws.{read-filled, visited, visited-only}
-use Rattle.writing.specs.Written.{Outcome, no, block, rewriteFrom, rewriteOf}
+use Rattle.writing.specs.Written.{no, block, rewriteFrom, rewriteOf}
 use Rattle.writing.proofs.BlockSteps.{block-long}
 
 -- what was rewritten: the records of an accepted block, in normal form

@@ -2,8 +2,8 @@
 -- Assumes nothing.
 use mathlib.Core.Path.{_≡_, refl, sym, ap, _∙_}
 use mathlib.Core.Bool.{Bool, true, false}
-use mathlib.Core.List.{List, [], _∷_, _++_, map, append-nil}
-use Prim.Native.Nat.{ℕ, suc, _+_, _*_, _-_, _≤_, _<_}
+use mathlib.Core.List.{List, [], _∷_, _++_, append-nil}
+use Prim.Native.Nat.{ℕ, suc, _+_, _-_, _<_}
 use native.Mathlib.Omega.{arith}
 use borrow.Author.Tests.{eq-eqb, eqb-true}
 use lib.Dec.{eqb}
@@ -15,22 +15,18 @@ use Rattle.layouts.proofs.Answers.{and-yes}
 use Rattle.blocks.specs.Records.{layoutOf, marksRefusal, itemsFit, good, putRec}
 use Rattle.blocks.specs.Blocks.{Block, all, blockOf, putRecs, allGood, putBlock}
 use Rattle.blocks.specs.Walks.{answerOf, readOf}
-use Rattle.blocks.specs.Steps.{stepOf}
 use Rattle.blocks.specs.Meaning.{sevens, recOf}
-use Rattle.blocks.specs.Boundaries.{Visited}
 use Rattle.blocks.specs.declared.record.Record.{Record}
 use Rattle.blocks.specs.declared.walk.Reading.{Reading}
-use Rattle.blocks.specs.declared.cursor.Step.{Step}
 use Rattle.blocks.proofs.WalkSteps.{by-known, table}
 use Rattle.blocks.proofs.BlockLaws.{record-some, block-put, put-len}
 use Rattle.blocks.proofs.ListedLaws.{read-block}
-use Rattle.blocks.proofs.BoundaryLaws.{visited}
-use Rattle.writing.specs.Judged.{recordRefusal, recordOctets, flags, fields, itemsOctets}
-use Rattle.writing.specs.Written.{Outcome, no, block, writeOf, rewriteOf}
+use Rattle.writing.specs.Judged.{recordRefusal, recordOctets, flags, fields}
+use Rattle.writing.specs.Written.{no, block, writeOf, rewriteOf}
 use Rattle.writing.proofs.MarksWritten.{length-marks, layout-same, marks-good, record-parts}
 use Rattle.writing.proofs.ItemsWritten.{items-fit, items-bound}
-use Rattle.writing.proofs.RecordWritten.{Fine, fine}
-use Rattle.writing.proofs.OctetsWritten.{joined, marks-short, sevens-are, block-are}
+use Rattle.writing.proofs.RecordWritten.{fine}
+use Rattle.writing.proofs.OctetsWritten.{marks-short, sevens-are, block-are}
 use Rattle.writing.proofs.BlockSteps.{block-long}
 use Rattle.writing.proofs.RewriteTheorems.{rewrite-read}
 

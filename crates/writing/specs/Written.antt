@@ -1,7 +1,7 @@
 -- A record written as a block, and a block rewritten: the answer, and the output as it is left (01 "Writing one record as a block",
 -- "Rewriting"). On refusal no octet of the output changes and the length given is 0; octets past those written stay.
-use mathlib.Core.List.{List, [], _∷_, _++_}
-use Prim.Native.Nat.{ℕ, zero, suc, _+_}
+use mathlib.Core.List.{List, [], _∷_}
+use Prim.Native.Nat.{ℕ, zero, suc}
 use lib.Dec.{leb, ltb, eqb}
 use lib.ListN.{length}
 use Rattle.octets.specs.Choice.{pick}
@@ -10,7 +10,7 @@ use Rattle.octets.specs.Refusals.{outputTooShort}
 use Rattle.layouts.specs.Formats.{Answer, refused, got}
 use Rattle.layouts.specs.Categories.{Category, category}
 use Rattle.blocks.specs.Records.{Rec}
-use Rattle.blocks.specs.Blocks.{Block, wrong, all, blockOf, putRecs, putBlock}
+use Rattle.blocks.specs.Blocks.{Block, wrong, all, blockOf, putBlock}
 use Rattle.blocks.specs.Offsets.{recordAt}
 use Rattle.blocks.specs.Meaning.{recOf}
 use Rattle.blocks.specs.declared.record.Record.{Record}

@@ -114,13 +114,13 @@ pub fn rewrite(s: &[u8], out: &mut [u8]) -> Written
         Reading::Refused(n, _) => Written::Refused(n),
         Reading::Accepted(len, _) => {
             let number = s[0];
-            let n = normal_size(s, len, number);
-            if out.len() < n + 3 {
+            let total = normal_size(s, len, number);
+            if out.len() < total + 3 {
                 return Written::Refused(refusal::OUTPUT_TOO_SHORT);
             }
-            put_header(out, number, n + 3);
+            put_header(out, number, total + 3);
             put_records(out, s, len, number);
-            Written::Octets(n + 3)
+            Written::Octets(total + 3)
         }
     }
 }

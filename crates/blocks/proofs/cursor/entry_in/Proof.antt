@@ -1,7 +1,6 @@
 -- `entry_in`: 17, or the entry of the category's size. Assumes nothing.
 use mathlib.Core.Path.{ap, _∙_}
 use native.Mathlib.Omega.{arith}
-use borrow.Author.Needs.{needs}
 use Rattle.blocks.specs.declared.cursor.Found.{Found}
 use Rattle.blocks.proofs.StepLaws.{entry-none, entry-version, entry-counter, version-room, counter-room}
 use Rattle.blocks.proofs.cursor.entry_in.Statement.{statement}

@@ -1,6 +1,5 @@
 -- `take`: a run of one record, and the typed record that it passed. Assumes nothing.
 use mathlib.Core.Path.{sym, _∙_}
-use native.Mathlib.Omega.{arith}
 use borrow.Author.Needs.{needs}
 use Rattle.blocks.proofs.StepLaws.{take-refused, take-taken}
 use Rattle.blocks.proofs.cursor.take.Statement.{statement}

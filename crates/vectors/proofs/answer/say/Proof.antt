@@ -6,8 +6,11 @@ use borrow.Author.Needs.{needs}
 use Rattle.vectors.proofs.answer.say.Statement.{statement}
 use Rattle.vectors.proofs.answer.say.Tie as tie
 
-say-unknown-requires : tie.Need-say-unknown-requires
-say-unknown-requires c κs = search needs
+is-numbered-requires : tie.Need-is-numbered-requires
+is-numbered-requires c κs = search needs
+
+unknown-requires : tie.Need-unknown-requires
+unknown-requires c κs = search needs
 
 same-length : tie.Need-same-length
 same-length c = search needs
@@ -15,8 +18,8 @@ same-length c = search needs
 returns : tie.Need-returns
 returns c = search needs
 
-say-unknown-requires-2 : tie.Need-say-unknown-requires-2
-say-unknown-requires-2 c κs = search needs
+unknown-requires-2 : tie.Need-unknown-requires-2
+unknown-requires-2 c κs = search needs
 
 same-length-2 : tie.Need-same-length-2
 same-length-2 c = search needs
@@ -40,10 +43,11 @@ pub say-spec : {M : Type 1} → statement M
 say-spec =
     tie.close
     (tie.spec
-    say-unknown-requires
+    is-numbered-requires
+    unknown-requires
     same-length
     returns
-    say-unknown-requires-2
+    unknown-requires-2
     same-length-2
     returns-2
     slice-aggregate-say-answer

@@ -1,8 +1,7 @@
 -- `put_record`: the specification, and the items behind it. Assumes nothing.
 use native.Mathlib.Omega.{arith}
-use borrow.Author.Needs.{needs}
 use Rattle.writing.proofs.MarksWritten.{marks-few}
-use Rattle.writing.proofs.RecordWritten.{Fine, fine, parts-room, parts-second, parts-same, parts-laid}
+use Rattle.writing.proofs.RecordWritten.{fine, parts-room, parts-second, parts-same, parts-laid}
 use Rattle.writing.proofs.record.put_record.Statement.{statement}
 use Rattle.writing.proofs.record.put_record.Tie as tie
 

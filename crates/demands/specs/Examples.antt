@@ -1,0 +1,146 @@
+-- Document 01's worked examples that are marked P: the octets, and everything that the box answers to them.
+use mathlib.Core.List.{List, [], _∷_}
+use Prim.Native.Nat.{ℕ}
+use Rattle.blocks.specs.Walks.{ReadListed, readRefused, readAccepted, readListed}
+use Rattle.blocks.specs.Typed.{nowhere}
+use Rattle.blocks.specs.Steps.{StepListed, stepRefused, stepTaken, stepListed, EntryListed, entryRefused, entryFound, entryListed}
+use Rattle.blocks.specs.declared.record.Record.{Record}
+use Rattle.writing.specs.Written.{Outcome, no, block, rewriteOf}
+
+-- what is answered to octets: by reading, by a step from 3, for that record's first entry, and by rewriting
+pub record Answers : Type 0 where
+  pub reading : ReadListed
+  pub step : StepListed
+  pub entry : EntryListed
+  pub rewriting : Outcome
+
+abbrev pub answers : List ℕ → Answers
+answers s = record { reading = readListed s; step = stepListed s 3; entry = entryListed s 3 0; rewriting = rewriteOf s }
+
+-- a record that is refused, in a block of one
+abbrev pub refused : ℕ → Answers
+refused n = record { reading = readRefused n 3; step = stepRefused n 3; entry = entryRefused n 3; rewriting = no n }
+
+-- a block of one record
+abbrev pub accepted : ℕ → Record → EntryListed → List ℕ → Answers
+accepted len t e xs = record { reading = readAccepted len 1; step = stepTaken t len; entry = e; rewriting = block xs }
+
+-- no entry of this number
+abbrev pub noEntry : EntryListed
+noEntry = entryRefused 17 0
+
+-- SAC 1, SIC 2, type 1, service 7, a time, degraded (1), overload (1), TSV 0, SDPS-2 (2); fields 1, 2, 3, 4 and 6
+abbrev pub sdpsRecord : ℕ → Record
+sdpsRecord time = record {
+  category = 65;
+  marks = 47;
+  source = record { sac = 1; sic = 2 };
+  «message_type» = 1;
+  service = record { sid = 0; styp = 0 };
+  identification = 7;
+  time = record { 0 = time };
+  batch = 0;
+  sdps = record { nogo = 1; ovl = 1; tsv = 0; pss = 2 };
+  report = 0;
+  station = record { nogo = 0; odp = 0; oxt = 0; msc = 0; tsv = 0; spo = 0; rn = 0; extended = 0; gssp = record { 0 = 0 } };
+  configuration = record { rp = record { 0 = 0 }; sc = 0; extended = 0; ssrp = record { 0 = 0 } };
+  range = 0;
+  status = 0;
+  entries = nowhere;
+  expansion = nowhere;
+  purpose = nowhere;
+}
+
+-- SAC 1, SIC 2, time 0, one version, behind REP at offset 9; fields 1, 2 and 3
+abbrev pub versionRecord : Record
+versionRecord = record {
+  category = 242;
+  marks = 7;
+  source = record { sac = 1; sic = 2 };
+  «message_type» = 0;
+  service = record { sid = 0; styp = 0 };
+  identification = 0;
+  time = record { 0 = 0 };
+  batch = 0;
+  sdps = record { nogo = 0; ovl = 0; tsv = 0; pss = 0 };
+  report = 0;
+  station = record { nogo = 0; odp = 0; oxt = 0; msc = 0; tsv = 0; spo = 0; rn = 0; extended = 0; gssp = record { 0 = 0 } };
+  configuration = record { rp = record { 0 = 0 }; sc = 0; extended = 0; ssrp = record { 0 = 0 } };
+  range = 0;
+  status = 0;
+  entries = record { at = 10; count = 1 };
+  expansion = nowhere;
+  purpose = nowhere;
+}
+
+-- SAC 1, SIC 2, type 3, SID 1 and STYP 2, one second, one counter, behind REP at offset 12; fields 1 to 4 and 9
+abbrev pub statisticsRecord : Record
+statisticsRecord = record {
+  category = 23;
+  marks = 271;
+  source = record { sac = 1; sic = 2 };
+  «message_type» = 3;
+  service = record { sid = 1; styp = 2 };
+  identification = 0;
+  time = record { 0 = 128 };
+  batch = 0;
+  sdps = record { nogo = 0; ovl = 0; tsv = 0; pss = 0 };
+  report = 0;
+  station = record { nogo = 0; odp = 0; oxt = 0; msc = 0; tsv = 0; spo = 0; rn = 0; extended = 0; gssp = record { 0 = 0 } };
+  configuration = record { rp = record { 0 = 0 }; sc = 0; extended = 0; ssrp = record { 0 = 0 } };
+  range = 0;
+  status = 0;
+  entries = record { at = 13; count = 1 };
+  expansion = nowhere;
+  purpose = nowhere;
+}
+
+-- octets, and their answers
+pub record Example : Type 0 where
+  pub octets : List ℕ
+  pub answers : Answers
+
+abbrev p1Octets : List ℕ
+p1Octets = 0x41 ∷ 0x00 ∷ 0x0C ∷ 0xF4 ∷ 0x01 ∷ 0x02 ∷ 0x01 ∷ 0x07 ∷ 0x00 ∷ 0x00 ∷ 0x80 ∷ 0x68 ∷ []
+
+abbrev p6Octets : List ℕ
+p6Octets = 0xF2 ∷ 0x00 ∷ 0x0D ∷ 0xE0 ∷ 0x01 ∷ 0x02 ∷ 0x00 ∷ 0x00 ∷ 0x00 ∷ 0x01 ∷ 0x17 ∷ 0x01 ∷ 0x02 ∷ []
+
+abbrev p8Octets : List ℕ
+p8Octets =
+    0x17 ∷ 0x00 ∷ 0x13 ∷ 0xF1 ∷ 0x40 ∷ 0x01 ∷ 0x02 ∷ 0x03 ∷ 0x12 ∷ 0x00 ∷ 0x00 ∷ 0x80 ∷ 0x01 ∷ 0x04 ∷ 0x00 ∷ 0x00 ∷ 0x00 ∷ 0x00 ∷ 0x64 ∷ []
+
+abbrev p4Octets : List ℕ
+p4Octets = 0x41 ∷ 0x00 ∷ 0x0C ∷ 0xF4 ∷ 0x01 ∷ 0x02 ∷ 0x01 ∷ 0x07 ∷ 0xA8 ∷ 0xBF ∷ 0xFF ∷ 0x68 ∷ []
+
+abbrev pub examples : List Example
+examples =
+    -- P1: 0; degraded, overload, SDPS-2, one second
+    record { octets = p1Octets; answers = accepted 12 (sdpsRecord 128) noEntry p1Octets }
+    -- P2: the same with last octet 6B: 0, the same values, rewritten as P1
+    ∷ record {
+      octets = 0x41 ∷ 0x00 ∷ 0x0C ∷ 0xF4 ∷ 0x01 ∷ 0x02 ∷ 0x01 ∷ 0x07 ∷ 0x00 ∷ 0x00 ∷ 0x80 ∷ 0x6B ∷ [];
+      answers = accepted 12 (sdpsRecord 128) noEntry p1Octets;
+    }
+    -- P3: a second specification octet of zero: 0, rewritten as P1
+    ∷ record {
+      octets = 0x41 ∷ 0x00 ∷ 0x0D ∷ 0xF5 ∷ 0x00 ∷ 0x01 ∷ 0x02 ∷ 0x01 ∷ 0x07 ∷ 0x00 ∷ 0x00 ∷ 0x80 ∷ 0x68 ∷ [];
+      answers = accepted 13 (sdpsRecord 128) noEntry p1Octets;
+    }
+    -- P4: P1 with time A8 C0 00: 11; with A8 BF FF: 0
+    ∷ record { octets = 0x41 ∷ 0x00 ∷ 0x0C ∷ 0xF4 ∷ 0x01 ∷ 0x02 ∷ 0x01 ∷ 0x07 ∷ 0xA8 ∷ 0xC0 ∷ 0x00 ∷ 0x68 ∷ []; answers = refused 11 }
+    ∷ record { octets = p4Octets; answers = accepted 12 (sdpsRecord 11059199) noEntry p4Octets }
+    -- P5: 10
+    ∷ record { octets = 0x41 ∷ 0x00 ∷ 0x0B ∷ 0xF0 ∷ 0x01 ∷ 0x02 ∷ 0x02 ∷ 0x07 ∷ 0x00 ∷ 0x00 ∷ 0x80 ∷ []; answers = refused 10 }
+    -- P6: 0, category 23 version 1.2; sub version 64: 11
+    ∷ record { octets = p6Octets; answers = accepted 13 versionRecord (entryFound (23 ∷ 1 ∷ 2 ∷ [])) p6Octets }
+    ∷ record {
+      octets = 0xF2 ∷ 0x00 ∷ 0x0D ∷ 0xE0 ∷ 0x01 ∷ 0x02 ∷ 0x00 ∷ 0x00 ∷ 0x00 ∷ 0x01 ∷ 0x17 ∷ 0x01 ∷ 0x64 ∷ [];
+      answers = refused 11;
+    }
+    -- P7: 8; with E1 for E0: 4
+    ∷ record { octets = 0xF2 ∷ 0x00 ∷ 0x0A ∷ 0xE0 ∷ 0x01 ∷ 0x02 ∷ 0x00 ∷ 0x00 ∷ 0x00 ∷ 0x00 ∷ []; answers = refused 8 }
+    ∷ record { octets = 0xF2 ∷ 0x00 ∷ 0x0A ∷ 0xE1 ∷ 0x01 ∷ 0x02 ∷ 0x00 ∷ 0x00 ∷ 0x00 ∷ 0x00 ∷ []; answers = refused 4 }
+    -- P8: 0, one entry, TYPE 4 from midnight, count 100
+    ∷ record { octets = p8Octets; answers = accepted 19 statisticsRecord (entryFound (4 ∷ 0 ∷ 100 ∷ [])) p8Octets }
+    ∷ []

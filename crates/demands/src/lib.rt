@@ -1,0 +1,1 @@
+// What was promised, on one page: see proofs/. There is no code here.

@@ -1,0 +1,84 @@
+// What is written to a lent output: its answer, whether the octets behind it stayed, and the octets.
+use crate::case::Case;
+use crate::case::REWRITE;
+use crate::cells::fit;
+use crate::cells::record_of;
+use crate::text::emit;
+use crate::text::hex;
+use crate::text::more;
+use crate::text::number;
+use crate::text::unknown;
+use writing::block::Written;
+use writing::block::rewrite;
+use writing::block::write;
+
+// The most octets of an output.
+const MOST: usize = 65540;
+
+// Each octet of an output before it is lent.
+const LENT: u8 = 0xA5;
+
+// 1 where every octet from an offset on is as it was lent, else 0.
+fn kept(out: &[u8], from: usize) -> u64 {
+    let mut i = from;
+    while i < out.len() {
+        if out[i] != LENT {
+            return 0;
+        }
+        i += 1;
+    }
+    1
+}
+
+// Number, length, whether the rest stayed, and the octets, where there are some; a length past the output, which no answer has, is
+// said without them.
+fn say_octets(text: &mut [u8], held: usize, out: &[u8], n: u8, len: usize) -> usize {
+    let at = number(text, held, n as u64);
+    let values = [len as u64, kept(out, len)];
+    let end = more(text, at, &values);
+    if len == 0 {
+        return end;
+    }
+    if out.len() < len {
+        return end;
+    }
+    let behind = emit(text, end, b' ');
+    hex(text, behind, &out[..len])
+}
+
+// The answer of writing, and the octets that it left.
+fn say_written(text: &mut [u8], held: usize, out: &[u8], answer: Written) -> usize {
+    match answer {
+        Written::Octets(len) => say_octets(text, held, out, 0, len),
+        Written::Refused(n) => say_octets(text, held, out, n, 0),
+    }
+}
+
+// The case's operation on a lent output.
+fn written(s: &[u8], out: &mut [u8], case: Case) -> Written {
+    let cells = case.cells;
+    if case.operation == REWRITE {
+        return rewrite(s, out);
+    }
+    write(record_of(cells), s, out)
+}
+
+// The answer to a case whose room an output has.
+fn say_room(s: &[u8], out: &mut [u8], text: &mut [u8], held: usize, case: Case) -> usize {
+    let answer = written(s, out, case);
+    say_written(text, held, out, answer)
+}
+
+// The answer to a case of writing, its first number the room; too much of it, or a cell that does not fit, is no case.
+pub fn say_output(s: &[u8], text: &mut [u8], held: usize, case: Case) -> usize {
+    let room = case.first;
+    let cells = case.cells;
+    if MOST < room {
+        return unknown(text, held);
+    }
+    if !fit(cells) {
+        return unknown(text, held);
+    }
+    let mut out = [LENT; MOST];
+    say_room(s, &mut out[..room], text, held, case)
+}
