@@ -21,6 +21,7 @@ use Rattle.blocks.specs.Presence.{Row, meets}
 use Rattle.blocks.specs.Marks.{marksOf, flagsOf, groupsOf}
 use Rattle.blocks.specs.Records.{formats, marksSpare}
 use Rattle.blocks.specs.Offsets.{specsAt}
+use Rattle.blocks.proofs.RecordLaws.{zeros-replicate}
 
 -- a mark as a number is the low bit that it tests
 bit : (x : ℕ) → pick (odd x) 1 0 ≡ x % 2
@@ -112,11 +113,6 @@ unfolding marksOf flags
 marks-none zero = refl
 marks-none (suc n) = rw (marks-none n)
 
-zeros-none : (n : ℕ) → zeros (replicate n 0) ≡ true
-unfolding zeros
-zeros-none zero = refl
-zeros-none (suc n) = zeros-none n
-
 -- a bit that is 0 halves the bound
 halve : (k : ℕ) {x : ℕ} → 0 < k → x < 2 * k → x / k % 2 ≡ 0 → x < 1 * k
 halve k p l e = div-lt-iff-lt-mul p .0 (omega (arith, div-lt-iff-lt-mul p .1 l))
@@ -165,7 +161,7 @@ module _ (s : List ℕ) (len : ℕ) (o : Octets s) where
       record {
         long = ap suc (length-replicate n 0);
         same = rw (one, marks-cons g (replicate n 0), marks-none n, zero-mul, zero-add);
-        none = none-cons g (replicate n 0) (omega (arith, o at)) (rw (marks-none n, zeros-none n));
+        none = none-cons g (replicate n 0) (omega (arith, o at)) (rw (marks-none n, zeros-replicate n));
         forward = omega arith;
         few = omega arith;
         within = omega arith;

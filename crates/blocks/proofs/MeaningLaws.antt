@@ -77,7 +77,7 @@ bits g l =
 two : (x : ℕ) → x % 2 < 2
 two x = omega arith
 
-low-bit : (n x m : ℕ) → x < 2 → n ≡ x + m * 2 → n % 2 ≡ x
+pub low-bit : (n x m : ℕ) → x < 2 → n ≡ x + m * 2 → n % 2 ≡ x
 low-bit n x m l h = omega arith
 
 -- a number of seven bits, the low one first, and what stands above them

@@ -28,7 +28,7 @@ zeros-are (g ∷ gs) h =
     let (a, b) = both (eqb g 0) (zeros gs) h in
     cc (eqb-true g 0 a, zeros-are gs b)
 
-zeros-replicate : (n : ℕ) → zeros (replicate n 0) ≡ true
+pub zeros-replicate : (n : ℕ) → zeros (replicate n 0) ≡ true
 unfolding zeros
 zeros-replicate zero = refl
 zeros-replicate (suc n) = zeros-replicate n

@@ -106,7 +106,7 @@ module _ (s : List ℕ) (start : ℕ) where
     unfolding stepOf stepBy takeOf
     step-inside l e r h = h ∙ rw (← good, le-ltb start 3 l, lt-leb len start e)
 
-not-taken : {n at : ℕ} {t : Record} {c : Cursor} → Step.Refused n at ≡ Step.Taken t c → ⊥
+pub not-taken : {n at : ℕ} {t : Record} {c : Cursor} → Step.Refused n at ≡ Step.Taken t c → ⊥
 not-taken h = let z : _≡_ {A = ℕ} 0 1 = cc in omega arith
 
 -- what a step that was taken says

@@ -114,7 +114,7 @@ fn finish(store: &mut [u8], text: &mut [u8], held: usize, line: Line) -> usize {
 }
 
 // The end of a line: an empty one is passed over, and a comment was written as it came.
-pub fn end(store: &mut [u8], text: &mut [u8], held: usize, line: Line) -> usize {
+pub(crate) fn end(store: &mut [u8], text: &mut [u8], held: usize, line: Line) -> usize {
     let state = line.state;
     match state {
         State::Start => held,

@@ -61,7 +61,7 @@ const NO_CASE: Case = Case {
 };
 
 // A line of which nothing has been read.
-pub fn fresh() -> Line {
+pub(crate) fn fresh() -> Line {
     Line {
         state: State::Start,
         case: NO_CASE,
@@ -89,7 +89,7 @@ fn numbers_of(operation: u64) -> usize {
 }
 
 // Whether a case has all its numbers.
-pub fn is_numbered(case: Case) -> bool {
+pub(crate) fn is_numbered(case: Case) -> bool {
     numbers_of(case.operation) <= case.given
 }
 
@@ -239,7 +239,7 @@ fn within(store: &mut [u8], case: Case, word: Word, c: u8) -> Line {
 }
 
 // One octet more of a line.
-pub fn next(store: &mut [u8], line: Line, c: u8) -> Line {
+pub(crate) fn next(store: &mut [u8], line: Line, c: u8) -> Line {
     let state = line.state;
     let case = line.case;
     let is_blank = c == b' ';
@@ -274,7 +274,7 @@ pub fn next(store: &mut [u8], line: Line, c: u8) -> Line {
     }
 }
 
-pub fn is_comment(line: Line) -> bool {
+pub(crate) fn is_comment(line: Line) -> bool {
     let state = line.state;
     if let State::Comment = state {
         true

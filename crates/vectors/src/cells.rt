@@ -100,7 +100,7 @@ fn say_configuration(
 }
 
 // The 36 cells of a record.
-pub fn say_record(text: &mut [u8], held: usize, record: Record) -> usize {
+pub(crate) fn say_record(text: &mut [u8], held: usize, record: Record) -> usize {
     let sdps = record.sdps;
     let station = record.station;
     let configuration = record.configuration;
@@ -121,7 +121,7 @@ fn most(cell: usize) -> u64 {
 }
 
 // Whether every cell fits its place in a record.
-pub fn fit(cells: [u64; 36]) -> bool {
+pub(crate) fn fit(cells: [u64; 36]) -> bool {
     let mut i: usize = 0;
     while i < 36 {
         if most(i) < cells[i] {
@@ -181,7 +181,7 @@ fn configuration_of(cells: [u64; 36]) -> Configuration {
 }
 
 // The record whose cells these are, where they fit.
-pub fn record_of(cells: [u64; 36]) -> Record {
+pub(crate) fn record_of(cells: [u64; 36]) -> Record {
     Record {
         category: octet(cells[0]),
         marks: long(cells[1]),

@@ -10,7 +10,7 @@ pub enum Number {
 }
 
 // The value of a hex digit, in either case; 16 for what is no digit.
-pub fn hex_value(c: u8) -> u8
+pub(crate) fn hex_value(c: u8) -> u8
     ensures { λ r. ⌜ r ≡ hexValue c ⌝ }
 {
     match c {
@@ -22,7 +22,7 @@ pub fn hex_value(c: u8) -> u8
 }
 
 // One decimal digit more, where the number still fits.
-pub fn with_digit(n: usize, c: u8) -> Number
+pub(crate) fn with_digit(n: usize, c: u8) -> Number
     ensures { λ r. ⌜ r ≡ withDigit n c ⌝ }
 {
     let d = hex_value(c) as usize;
@@ -36,7 +36,7 @@ pub fn with_digit(n: usize, c: u8) -> Number
 }
 
 // The hex digit of the low half of an octet, in upper case.
-pub fn hex_digit(octet: u8) -> u8
+pub(crate) fn hex_digit(octet: u8) -> u8
     ensures { λ r. ⌜ hexValue r ≡ octet % 16 ⌝ }
 {
     let half = octet % 16;

@@ -4,7 +4,7 @@
 pub const TOO_LONG: usize = usize::MAX;
 
 // One octet more; what has no room is dropped, and the length tells.
-pub fn put(store: &mut [u8], len: usize, octet: u8) -> usize {
+pub(crate) fn put(store: &mut [u8], len: usize, octet: u8) -> usize {
     if len < store.len() {
         store[len] = octet;
         return len + 1;
@@ -28,7 +28,7 @@ fn again(store: &mut [u8], from: usize, to: usize, at: usize) -> usize {
 }
 
 // The octets between two offsets so many times, the first time where they stand.
-pub fn repeat(store: &mut [u8], from: usize, to: usize, times: usize) -> usize {
+pub(crate) fn repeat(store: &mut [u8], from: usize, to: usize, times: usize) -> usize {
     let mut end = from;
     let mut left = times;
     while 0 < left && end < TOO_LONG {

@@ -3,7 +3,7 @@ ghost use mathlib.Core.Path.{_≡_};
 use crate::digits::hex_digit;
 
 // Writes what is gathered; gathering then begins anew.
-pub fn flush(text: &[u8], held: usize) -> usize
+pub(crate) fn flush(text: &[u8], held: usize) -> usize
     ensures { λ r. ⌜ r ≡ 0 ⌝ }
 {
     if held <= text.len() {
@@ -13,7 +13,7 @@ pub fn flush(text: &[u8], held: usize) -> usize
 }
 
 // One octet more.
-pub fn emit(text: &mut [u8], held: usize, octet: u8) -> usize {
+pub(crate) fn emit(text: &mut [u8], held: usize, octet: u8) -> usize {
     let mut at = held;
     if text.len() <= held {
         at = flush(text, held);
@@ -26,7 +26,7 @@ pub fn emit(text: &mut [u8], held: usize, octet: u8) -> usize {
 }
 
 // Several octets more.
-pub fn emit_all(text: &mut [u8], held: usize, octets: &[u8]) -> usize {
+pub(crate) fn emit_all(text: &mut [u8], held: usize, octets: &[u8]) -> usize {
     let mut at = held;
     let mut i: usize = 0;
     while i < octets.len() {
@@ -37,19 +37,19 @@ pub fn emit_all(text: &mut [u8], held: usize, octets: &[u8]) -> usize {
 }
 
 // What is no case: a question mark and a blank.
-pub fn unknown(text: &mut [u8], held: usize) -> usize {
+pub(crate) fn unknown(text: &mut [u8], held: usize) -> usize {
     emit_all(text, held, b"? ")
 }
 
 // A number in decimal.
-pub fn number(text: &mut [u8], held: usize, n: u64) -> usize {
+pub(crate) fn number(text: &mut [u8], held: usize, n: u64) -> usize {
     let mut digits = [0u8; 20];
     let k = io::decimal(n, &mut digits);
     emit_all(text, held, &digits[..k])
 }
 
 // More numbers, with a blank before each.
-pub fn more(text: &mut [u8], held: usize, values: &[u64]) -> usize {
+pub(crate) fn more(text: &mut [u8], held: usize, values: &[u64]) -> usize {
     let mut at = held;
     let mut i: usize = 0;
     while i < values.len() {
@@ -61,7 +61,7 @@ pub fn more(text: &mut [u8], held: usize, values: &[u64]) -> usize {
 }
 
 // Octets, two digits each.
-pub fn hex(text: &mut [u8], held: usize, octets: &[u8]) -> usize {
+pub(crate) fn hex(text: &mut [u8], held: usize, octets: &[u8]) -> usize {
     let mut at = held;
     let mut i: usize = 0;
     while i < octets.len() {

@@ -70,7 +70,7 @@ fn say_room(s: &[u8], out: &mut [u8], text: &mut [u8], held: usize, case: Case) 
 }
 
 // The answer to a case of writing, its first number the room; too much of it, or a cell that does not fit, is no case.
-pub fn say_output(s: &[u8], text: &mut [u8], held: usize, case: Case) -> usize {
+pub(crate) fn say_output(s: &[u8], text: &mut [u8], held: usize, case: Case) -> usize {
     let room = case.first;
     let cells = case.cells;
     if MOST < room {

@@ -59,7 +59,7 @@ flags-count zero m = refl
 flags-count (suc n) m = ap suc (flags-count n (m / 2))
 
 -- of two refusals there is none: neither
-none-of : (n m : ℕ) → orElse n m ≡ 0 → (n ≡ 0) × (m ≡ 0)
+pub none-of : (n m : ℕ) → orElse n m ≡ 0 → (n ≡ 0) × (m ≡ 0)
 none-of n m h = go (eqb n 0) refl h
   where
     go : (b : Bool) → eqb n 0 ≡ b → pick b m n ≡ 0 → (n ≡ 0) × (m ≡ 0)

@@ -24,6 +24,7 @@ use Rattle.blocks.specs.Marks.{flagsOf}
 use Rattle.blocks.specs.Records.{formats, isUnused, marksSpare, layoutOf, marksRefusal, typeOf, present, putRec}
 use Rattle.blocks.specs.Meaning.{itemIn, sevens, valuesOf, recOf}
 use Rattle.blocks.specs.declared.record.Record.{Record}
+use Rattle.blocks.proofs.MeaningLaws.{low-bit}
 use Rattle.blocks.proofs.MarksLaws.{flags-long, no-flags, formats-more, spare-more, meets-more}
 use Rattle.blocks.proofs.WalkSteps.{by-known, Table, table}
 use Rattle.writing.specs.Judged.{itemsOctets, markedRefusal, recordOctets, typeIn, specificationOctet}
@@ -53,9 +54,6 @@ whole m =
 
 two : (x : ℕ) → x % 2 < 2
 two x = omega arith
-
-low-bit : (n x m : ℕ) → x < 2 → n ≡ x + m * 2 → n % 2 ≡ x
-low-bit n x m l h = omega arith
 
 -- a number of seven bits, by its bits
 module _ (a b c d e f g : ℕ) (la : a < 2) (lb : b < 2) (lc : c < 2) (ld : d < 2) (le : e < 2) (lf : f < 2) (lg : g < 2)

@@ -24,7 +24,7 @@ use Rattle.writing.specs.Judged.{orElse, typeIn, itemsRefusal, itemsSize
 use Rattle.writing.specs.Written.{no, block, writeOf}
 use Rattle.blocks.proofs.WalkSteps.{table}
 use Rattle.writing.proofs.MarksWritten.{record-parts, present-by-type}
-use Rattle.writing.proofs.ItemsWritten.{items-bound}
+use Rattle.writing.proofs.ItemsWritten.{none-of, items-bound}
 
 -- a size is that of no refusal, or the refusal
 refused-size : (n k m : ℕ) → Size.Refused m ≡ pick (eqb n 0) (Size.Octets k) (Size.Refused n) → (n ≡ m) × (m ≡ 0 → ⊥)
@@ -111,13 +111,6 @@ module _ (s : List ℕ) (t : Record) where
     pub items : itemsRefusal s t (flags s t) (fields s t) ≡ 0
     pub present : present (category (t .category)) (recOf s t .marks) (recOf s t .items) ≡ true
 
-  none-first : (n m : ℕ) → orElse n m ≡ 0 → (n ≡ 0) × (m ≡ 0)
-  none-first n m h = go (eqb n 0) (eqb-true n 0) (eqb-false n 0) h
-    where
-      go : (b : Bool) → (b ≡ true → n ≡ 0) → (b ≡ false → n ≡ 0 → ⊥) → pick b m n ≡ 0 → (n ≡ 0) × (m ≡ 0)
-      go true f g h = (f refl, h)
-      go false f g h = absurd (g refl h)
-
   pub fine : recordRefusal s t ≡ 0 → Fine
   unfolding recordRefusal
   fine h = by-known (known (t .category)) refl h
@@ -130,8 +123,8 @@ module _ (s : List ℕ) (t : Record) where
       by-known : (b : Bool) → known (t .category) ≡ b
           → pick b (orElse (markedRefusal s t) (orElse (itemsRefusal s t (flags s t) (fields s t)) (presenceRefusal s t))) unknownCategory ≡ 0 → Fine
       by-known true e h =
-          let (a, b) = none-first (markedRefusal s t) _ h in
-          let (c, d) = none-first (itemsRefusal s t (flags s t) (fields s t)) _ b in
+          let (a, b) = none-of (markedRefusal s t) _ h in
+          let (c, d) = none-of (itemsRefusal s t (flags s t) (fields s t)) _ b in
           record { known = e; marks = a; items = c; present = by-present _ refl d }
       by-known false e h = absurd (omega arith)
 

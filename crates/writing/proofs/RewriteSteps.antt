@@ -24,6 +24,7 @@ use Rattle.blocks.specs.declared.cursor.Step.{Step}
 use Rattle.blocks.specs.declared.walk.Reading.{Reading}
 use Rattle.blocks.proofs.ReadSteps.{record-within}
 use Rattle.blocks.proofs.ListedLaws.{read-block}
+use Rattle.blocks.proofs.StepLaws.{not-taken}
 use Rattle.writing.specs.Judged.{recordRefusal, recordOctets, recordSize}
 use Rattle.writing.specs.Written.{no, block, within, rewriteFrom, rewriteOf, headerOctets, goodAt}
 use Rattle.writing.specs.declared.block.Written.{Written}
@@ -32,9 +33,6 @@ use Rattle.writing.proofs.GoodLaws.{good-end, good-refused, good-step, 
 use Rattle.writing.proofs.BlockSteps.{block-long, block-laid, header-same, Says, says-short, says-block}
 
 -- One step
-
-not-taken : {n at : ℕ} {t : Record} {c : Cursor} → Step.Refused n at ≡ Step.Taken t c → ⊥
-not-taken h = let z : _≡_ {A = ℕ} 0 1 = cc in omega arith
 
 module _ (s : List ℕ) (len number at : ℕ) where
   -- what a step that was taken says

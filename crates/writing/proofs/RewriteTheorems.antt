@@ -29,7 +29,7 @@ pub record Rewritten (s xs : List ℕ) : Type 0 where
   pub read : blockOf s ≡ all cat rs
   pub is : xs ≡ putBlock cat rs
 
-not-block : {n : ℕ} {xs : List ℕ} → no n ≡ block xs → ⊥
+pub not-block : {n : ℕ} {xs : List ℕ} → no n ≡ block xs → ⊥
 not-block h = let z : _≡_ {A = ℕ} 0 1 = cc in omega arith
 
 pub rewritten : (s xs : List ℕ) → rewriteOf s ≡ block xs → Rewritten s xs

@@ -28,10 +28,7 @@ use Rattle.writing.proofs.ItemsWritten.{items-fit, items-bound}
 use Rattle.writing.proofs.RecordWritten.{fine}
 use Rattle.writing.proofs.OctetsWritten.{marks-short, sevens-are, block-are}
 use Rattle.writing.proofs.BlockSteps.{block-long}
-use Rattle.writing.proofs.RewriteTheorems.{rewrite-read}
-
-not-block : {n : ℕ} {xs : List ℕ} → no n ≡ block xs → ⊥
-not-block h = let z : _≡_ {A = ℕ} 0 1 = cc in omega arith
+use Rattle.writing.proofs.RewriteTheorems.{not-block, rewrite-read}
 
 module _ (s : List ℕ) (t : Record) (small : t .marks < 4294967296) where
   -- a record that is not refused is one that may be put, and its octets fit LEN
