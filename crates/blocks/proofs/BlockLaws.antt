@@ -117,11 +117,11 @@ category-number cat = go (eqb cat 23) (eqb cat 65) (eqb cat 242) (eqb-true cat 2
     go false false true f g h = sym (h refl)
     go false false false f g h = refl
 
--- What a block in normal form has for LEN, and behind its header.
-module _ (cat : ℕ) (rs : List Rec) (t : List ℕ) where
-  abbrev body : List ℕ
-  body = putRecs (category cat) rs
+-- A block of any octets behind a header that has their number: LEN, and what is read.
+abbrev pub headed : ℕ → List ℕ → List ℕ
+headed cat body = cat ∷ (octets 2 (3 + length body) ++ body)
 
+module _ (cat : ℕ) (body t : List ℕ) (fit : 3 + length body < 65536) where
   abbrev size : ℕ
   size = 3 + length body
 
@@ -131,21 +131,32 @@ module _ (cat : ℕ) (rs : List Rec) (t : List ℕ) where
   three : length head ≡ 3
   three = ap suc (length-octets 2 size)
 
-  pub put-len : size < 65536 → number 2 (putBlock cat rs ++ t) 1 ≡ size
-  unfolding putBlock
-  put-len fit = rw (append-assoc head body t) (number-octets 2 size (cat ∷ []) (body ++ t) fit)
+  pub headed-len : number 2 (headed cat body ++ t) 1 ≡ size
+  headed-len = rw (append-assoc head body t) (number-octets 2 size (cat ∷ []) (body ++ t) fit)
 
-  -- It is read back, whatever stands behind it.
-  pub block-put : known cat ≡ true → allGood (category cat) rs ≡ true → 0 < length body → size < 65536
-      → blockOf (putBlock cat rs ++ t) ≡ all cat rs
-  unfolding blockOf putBlock
-  block-put k g some fit =
+  pub headed-read : known cat ≡ true → 0 < length body → blockOf (headed cat body ++ t) ≡ records size size (category cat) body
+  unfolding blockOf
+  headed-read k some =
       let s = (head ++ body) ++ t in
       let long : length (head ++ body) ≡ size = rw (length-append, three) in
       let is-body : window s size 3 ≡ body = rw (take-at (head ++ body) t size long, drop-at head body 3 three) in
       let enough : size ≤ length s = rw (length-append, long) (omega arith) in
-      let head-good : Head.Good cat size ≡ headerOf s = header-fits s (omega arith) k size (sym (put-len fit)) (omega arith) enough in
-      rw (← head-good, is-body, records-put size (category cat) size rs g (omega arith), category-number cat)
+      let head-good : Head.Good cat size ≡ headerOf s = header-fits s (omega arith) k size (sym headed-len) (omega arith) enough in
+      rw (← head-good, is-body)
+
+-- A block in normal form is read back, whatever stands behind it.
+module _ (cat : ℕ) (rs : List Rec) (t : List ℕ) where
+  pub put-len : 3 + length (putRecs (category cat) rs) < 65536 → number 2 (putBlock cat rs ++ t) 1 ≡ 3 + length (putRecs (category cat) rs)
+  unfolding putBlock
+  put-len = headed-len cat (putRecs (category cat) rs) t
+
+  pub block-put : known cat ≡ true → allGood (category cat) rs ≡ true → 0 < length (putRecs (category cat) rs)
+      → 3 + length (putRecs (category cat) rs) < 65536 → blockOf (putBlock cat rs ++ t) ≡ all cat rs
+  unfolding putBlock
+  block-put k g some fit =
+      let body = putRecs (category cat) rs in
+      headed-read cat body t fit k some
+      ∙ rw (records-put (3 + length body) (category cat) (3 + length body) rs g (omega arith), category-number cat)
 
 weaker : {P Q : ℕ → List Rec → Type 0} → ((cat : ℕ) (rs : List Rec) → P cat rs → Q cat rs)
     → (b : Block) → OfAll P b → OfAll Q b

@@ -2,6 +2,7 @@ pub mod HeaderLaws
 pub mod RecordLaws
 pub mod RecordTheorems
 pub mod BlockLaws
+pub mod JoinLaws
 pub mod WindowLaws
 pub mod BeforeLaws
 pub mod AlikeLaws

@@ -10,12 +10,12 @@ use Rattle.octets.specs.Choice.{odd}
 use Rattle.octets.specs.Numbers.{Octets, number}
 use Rattle.octets.specs.Refusals.{noSuch}
 use Rattle.layouts.specs.Formats.{got}
-use Rattle.layouts.specs.Categories.{Category, category}
+use Rattle.layouts.specs.Categories.{Category, category, known}
 use Rattle.layouts.proofs.Before.{SameBefore}
 use Rattle.layouts.proofs.Formats.{Octets-drop}
 use Rattle.blocks.specs.Headers.{headerOf}
 use Rattle.blocks.specs.Records.{Rec, layoutOf, putItems, recordOf}
-use Rattle.blocks.specs.Blocks.{all, blockOf}
+use Rattle.blocks.specs.Blocks.{all, records, blockOf}
 use Rattle.blocks.specs.Walks.{readOf}
 use Rattle.blocks.specs.Steps.{stepOf, entryIn, entryOf}
 use Rattle.blocks.specs.Meaning.{recOf}
@@ -26,13 +26,15 @@ use Rattle.blocks.specs.declared.record.Record.{Record}
 use Rattle.blocks.specs.declared.walk.Reading.{Reading}
 use Rattle.blocks.specs.declared.cursor.Step.{Step}
 use Rattle.blocks.specs.declared.cursor.Found.{Found}
-use Rattle.blocks.proofs.RecordTheorems.{spare-bits, second-zero}
+use Rattle.blocks.proofs.RecordTheorems.{spare-bits}
+use Rattle.blocks.proofs.BlockLaws.{headed}
+use Rattle.blocks.proofs.JoinLaws.{second-block}
 use Rattle.blocks.proofs.BoundaryLaws.{visited}
 use Rattle.blocks.proofs.SameAnswers.{read-alike, block-alike, step-alike, entry-alike, read-after-len, block-after-len, step-after-len, entry-after-len}
 use Rattle.writing.specs.Written.{block, writeOf, rewriteOf}
 use Rattle.writing.specs.Same.{entriesForm, has, Same}
 use Rattle.writing.specs.declared.block.Written.{Written}
-use Rattle.writing.proofs.RewriteTheorems.{rewrite-accepted, rewrite-again, rewrite-short, rewrite-same, rewrite-typed}
+use Rattle.writing.proofs.RewriteTheorems.{rewrite-accepted, rewrite-reading, rewrite-again, rewrite-short, rewrite-same, rewrite-typed}
 use Rattle.writing.proofs.WriteTheorems.{write-normal, write-reading}
 use Rattle.writing.proofs.ReadBackTheorems.{write-back, entry-back, entry-none}
 use Rattle.demands.specs.Contracts.{Reads, Steps, Entries, Writes, Rewrites}
@@ -89,6 +91,11 @@ module _ (s : List ℕ) (o : Octets s) (l out : List ℕ) (n : ℕ) (h : Rewrite
   pub same-records : blockOf out ≡ blockOf s
   same-records = ap blockOf (x .same) ∙ rewrite-accepted s (x .xs) o (x .is) (drop n l)
 
+  pub as-many : (len k : ℕ) → Reads s (Reading.Accepted len k) → (r : Reading) → Reads out r → r ≡ Reading.Accepted n k
+  as-many len k e r q =
+      q .0 ∙ ap readOf (x .same) ∙ rewrite-reading s (x .xs) o (x .is) (drop n l) len k (sym (e .0))
+      ∙ ap (λ (m : ℕ). Reading.Accepted m k) (sym (x .long))
+
   -- Rewriting it again changes nothing.
   pub again : rewriteOf out ≡ block (take n out)
   again =
@@ -138,9 +145,13 @@ module _ (s t : List ℕ) (first : (i : ℕ) → i < 3 → getD s i 0 ≡ getD t
     pub after-entry : Octets s → Octets t → (start k : ℕ) (r q : Found) → Entries s start k r → Entries t start k q → r ≡ q
     after-entry o o' start k r q a b = a .0 ∙ entry-after-len s t first long long' fits fits' h o o' start k ∙ sym (b .0)
 
--- A second specification octet of zero reads as none: the record, and what stands behind it, is the same; so its rewriting is too.
-pub second-octet : (c : Category) → 2 ≤ c .most → (x : ℕ) (s : List ℕ) → odd x ≡ false → recordOf c ((x + 1) ∷ 0 ∷ s) ≡ recordOf c (x ∷ s)
-second-octet = second-zero
+-- A second specification octet of zero, in a record behind whole records a, changes no rewriting.
+pub second-octet : (cat : ℕ) → known cat ≡ true → 2 ≤ category cat .most → (a b : List ℕ) (x : ℕ) → Octets a → Octets (x ∷ b) → odd x ≡ false
+    → (n len : ℕ) (rs ts : List Rec) → records n len (category cat) a ≡ all cat rs → records n len (category cat) (x ∷ b) ≡ all cat ts
+    → 3 + length (a ++ ((x + 1) ∷ 0 ∷ b)) < 65536
+    → (t : List ℕ) → rewriteOf (headed cat (a ++ ((x + 1) ∷ 0 ∷ b)) ++ t) ≡ rewriteOf (headed cat (a ++ (x ∷ b)) ++ t)
+second-octet cat k two a b x o o' even n len rs ts e f fit t =
+    rewrite-same _ _ (second-block cat k two a b x o o' even n len rs ts e f fit t)
 
 -- An accepted record is its specification and its values with some spare bits; with any others it is the same record.
 pub any-spare-bits : (c : Category) (s : List ℕ) (r : Rec) (t : List ℕ) → Octets s → recordOf c s ≡ got r t

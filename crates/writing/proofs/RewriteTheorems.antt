@@ -69,15 +69,18 @@ module _ (s xs : List ℕ) (o : Octets s) (h : rewriteOf s ≡ block xs) where
   pub rewrite-short : length xs ≤ number 2 s 1
   rewrite-short = rw (w .is, block-long (w .cat) (w .rs)) (omega (arith, sound .short))
 
-  -- It is answered with its own length, and as many records.
-  pub rewrite-reading : (t : List ℕ) → readOf (xs ++ t) ≡ Reading.Accepted (length xs) (length (w .rs))
-  rewrite-reading t =
+  -- It is answered with its own length, and as many records as the block that was read.
+  pub rewrite-reading : (t : List ℕ) (len n : ℕ) → readOf s ≡ Reading.Accepted len n → readOf (xs ++ t) ≡ Reading.Accepted (length xs) n
+  rewrite-reading t len n e =
       let size : 3 + length (putRecs (category (w .cat)) (w .rs)) < 65536 = omega (arith, sound .short, number-lt 2 s 1 o) in
       let long : length xs ≡ length (putRecs (category (w .cat)) (w .rs)) + 3 = ap length (w .is) ∙ block-long (w .cat) (w .rs) in
-      let len : number 2 (xs ++ t) 1 ≡ length xs
+      let is-len : number 2 (xs ++ t) 1 ≡ length xs
       = ap (λ (x : List ℕ). number 2 (x ++ t) 1) (w .is) ∙ put-len (w .cat) (w .rs) t size ∙ omega arith in
+      let counted : Reading.Accepted (number 2 s 1) (length (w .rs)) ≡ Reading.Accepted len n
+      = sym (read-block s ∙ ap (answerOf (number 2 s 1)) (w .read)) ∙ e in
+      let count : length (w .rs) ≡ n = cc in
       read-block (xs ++ t) ∙ ap (λ (b : Block). answerOf (number 2 (xs ++ t) 1) b) (rewrite-accepted t ∙ w .read)
-      ∙ ap (λ (n : ℕ). Reading.Accepted n (length (w .rs))) len
+      ∙ ap (λ (m : ℕ). Reading.Accepted m (length (w .rs))) is-len ∙ ap (Reading.Accepted (length xs)) count
 
 -- the category of an accepted block is its first octet
 read-cat : (s : List ℕ) (len n cat : ℕ) (rs : List Rec) → Octets s → readOf s ≡ Reading.Accepted len n → blockOf s ≡ all cat rs → cat ≡ getD s 0 0
