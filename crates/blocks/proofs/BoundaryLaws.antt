@@ -1,25 +1,24 @@
 -- The records found fill LEN exactly, each from where the one before it ended, by reading and by stepping. Assumes nothing.
 use mathlib.Core.Path.{_≡_, refl, sym, ap, _∙_, subst}
 use mathlib.Core.Logic.{inl, inr}
-use mathlib.Core.Bool.{Bool, true, false, _||_}
+use mathlib.Core.Bool.{Bool, true, false}
 use mathlib.Core.List.{List, [], _∷_, map}
 use Prim.Native.Nat.{ℕ, zero, suc, _-_, _≤_, _<_}
 use native.Mathlib.Omega.{arith}
 use borrow.Author.Tests.{leb-true, leb-false, lt-leb, le-leb, le-ltb}
-use lib.Dec.{leb, ltb}
+use lib.Dec.{leb}
 use lib.ListN.{length, length-map}
 use Rattle.octets.specs.Numbers.{Octets}
 use Rattle.octets.specs.Refusals.{noSuch}
 use Rattle.layouts.specs.Formats.{Answer, refused, got}
 use Rattle.layouts.specs.Categories.{Category, category}
-use Rattle.layouts.proofs.Answers.{choose}
 use Rattle.blocks.specs.Headers.{headerOf}
 use Rattle.blocks.specs.Records.{Rec}
 use Rattle.blocks.specs.Blocks.{Block, wrong, all, with, blockOf}
 use Rattle.blocks.specs.Offsets.{recordAt, firstAt, recordsAt}
 use Rattle.blocks.specs.Walks.{answerOf, readOf}
 use Rattle.blocks.specs.Typed.{typedRec}
-use Rattle.blocks.specs.Steps.{itemsFrom, takenBy, takeBy, stepFrom, stepBy, stepOf}
+use Rattle.blocks.specs.Steps.{itemsFrom, takeBy, stepBy, stepOf}
 use Rattle.blocks.specs.Meaning.{recOf}
 use Rattle.blocks.specs.Boundaries.{Joined, Full, Stopped, Visited}
 use Rattle.blocks.specs.declared.header.Head.{Head}
@@ -27,13 +26,13 @@ use Rattle.blocks.specs.declared.header.Head.the-variants as head
 use Rattle.blocks.specs.declared.record.Record.{Record}
 use Rattle.blocks.specs.declared.cursor.Cursor.{Cursor}
 use Rattle.blocks.specs.declared.cursor.Step.{Step}
-use Rattle.blocks.specs.declared.cursor.Step.the-variants as step
 use Rattle.blocks.specs.declared.walk.Reading.{Reading}
 use Rattle.blocks.proofs.HeaderLaws.{header-good}
 use Rattle.blocks.proofs.BlockLaws.{category-number}
 use Rattle.blocks.proofs.WindowLaws.{records-at}
 use Rattle.blocks.proofs.ReadSteps.{record-within, records-end, records-one}
 use Rattle.blocks.proofs.MeaningLaws.{means-read}
+use Rattle.blocks.proofs.StepLaws.{step-took}
 
 module _ (s : List ℕ) (len : ℕ) (c : Category) where
   -- what reading from an offset finds: records that go to LEN; or records up to the first faulty one
@@ -97,7 +96,7 @@ read-refused : (s : List ℕ) (n : ℕ) → headerOf s ≡ Head.Refused n → re
 unfolding readOf
 read-refused s n h = rw h
 
-not-accepted : {n at len count : ℕ} → Reading.Refused n at ≡ Reading.Accepted len count → ⊥
+pub not-accepted : {n at len count : ℕ} → Reading.Refused n at ≡ Reading.Accepted len count → ⊥
 not-accepted h = let z : _≡_ {A = ℕ} 0 1 = cc in omega arith
 
 full-all : (s : List ℕ) (cat len' len n : ℕ) → headerOf s ≡ Head.Good cat len'
@@ -178,29 +177,12 @@ visited s len n o a =
     let (ts, v, m) = joined-visited s cat len h o 3 len rs (omega arith) j in
     (cat, ts, v, sym (length-map ts (recOf s)) ∙ ap length m ∙ count, rw m is)
 
--- a step that takes a record goes forward
-abbrev Forward : ℕ → Step → Type 0
-Forward at (step.Refused n p) = Unit {0}
-Forward at (step.Taken t c) = at < c .at
-
-abbrev taken : Record → ℕ → Step
-taken t q = Step.Taken t (record { at = q })
-
 module _ (s : List ℕ) (o : Octets s) where
-  from-forward : (at : ℕ) (h : Head) → Forward at (stepFrom Step.Refused taken s at h)
-  unfolding takeBy
-  from-forward at (head.Refused n) = tt
-  from-forward at (head.Good cat len) =
-      choose (Forward at) (ltb at 3 || leb len at) (λ e. tt) (λ e. go (recordAt s len (category cat) at) refl)
-    where
-      go : (m : Answer ℕ Rec) → recordAt s len (category cat) at ≡ m
-          → Forward at (takenBy Step.Refused taken (category cat) at (itemsFrom s len (category cat) at) m)
-      go (refused n) e = tt
-      go (got r q) e = record-within s len (category cat) o at q r e .0
-
+  -- a step that takes a record goes forward
   step-forward : (at q : ℕ) (t : Record) → stepOf s at ≡ Step.Taken t (record { at = q }) → at < q
-  unfolding stepOf stepBy
-  step-forward at q t e = subst (Forward at) e (from-forward at (headerOf s))
+  step-forward at q t e =
+      let w = step-took s at t (record { at = q }) e in
+      record-within s (w .len) (category (w .cat)) o at q (w .taking .r) (w .taking .is) .0
 
   visited-forward : (at end : ℕ) (ts : List Record) → Visited s at ts end → at ≤ end
   visited-forward at end [] j = omega arith

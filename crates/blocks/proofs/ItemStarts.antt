@@ -1,7 +1,7 @@
 -- Where the items of a record start: each behind those before it, as many octets on as these have. Assumes nothing.
 use mathlib.Core.Path.{_≡_, refl, sym}
 use mathlib.Core.List.{List, [], _∷_}
-use Prim.Native.Nat.{ℕ, zero, suc, _+_, _-_}
+use Prim.Native.Nat.{ℕ, zero, suc, _+_, _-_, _<_}
 use native.Mathlib.Nat.{add-zero, add-assoc}
 use native.Mathlib.Omega.{arith}
 use lib.Dec.{ltb}
@@ -12,9 +12,27 @@ use Rattle.layouts.specs.Groups.{values}
 use Rattle.layouts.specs.Formats.{got, Format, done, stop, ask, Trace, fitsIn, put}
 use Rattle.layouts.specs.Offsets.{runAt, itemAt}
 use Rattle.layouts.proofs.Answers.{got-refused, pick-no, through}
-use Rattle.blocks.specs.Records.{putItems}
+use Rattle.blocks.specs.Records.{formats, putItems}
 use Rattle.blocks.specs.Offsets.{itemsAt}
 use Rattle.blocks.proofs.WalkSteps.{item-run}
+use mathlib.Core.Bool.{Bool, true, false}
+use Rattle.octets.specs.Choice.{pick}
+use Rattle.layouts.specs.Layouts.{format}
+use Rattle.layouts.specs.Tables.{layout}
+use Rattle.layouts.specs.declared.form.Form.{Form}
+
+-- a marked field's format is that of its form, a field's that is not marked has no octets
+pub formats-at : (bs : List Bool) (fs : List Form) (n : ℕ) → (getD bs n false ≡ true → n < length fs)
+    → getD (formats bs fs) n done ≡ pick (getD bs n false) (format (layout (getD fs n Form.Spare))) done
+unfolding formats
+formats-at [] fs n h = refl
+formats-at (b ∷ bs) [] n h = go (getD (b ∷ bs) n false) h
+  where
+    go : (x : Bool) → (x ≡ true → n < 0) → done ≡ pick x (format (layout Form.Spare)) done
+    go true h = absurd (omega (arith, h refl))
+    go false h = refl
+formats-at (b ∷ bs) (f ∷ fs) zero h = refl
+formats-at (b ∷ bs) (f ∷ fs) (suc n) h = formats-at bs fs n (λ e. omega (arith, h e))
 
 -- where item n of those from an offset starts
 abbrev pub startIn : List Format → List Trace → ℕ → ℕ → ℕ

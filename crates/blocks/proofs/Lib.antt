@@ -15,9 +15,9 @@ pub mod RecordFaults
 pub mod ListedLaws
 pub mod ItemStarts
 pub mod TypedLaws
+pub mod StepLaws
 pub mod MeaningLaws
 pub mod BoundaryLaws
-pub mod StepLaws
 pub mod SameAnswers
 pub mod AtEnd
 pub mod RecordStarts

@@ -10,7 +10,6 @@ use lib.Dec.{leb, ltb, eqb}
 use lib.ListN.{length, getD, replicate}
 use Rattle.octets.specs.Choice.{pick, odd}
 use Rattle.octets.specs.Numbers.{Octets, number}
-use Rattle.octets.specs.Refusals.{presenceBroken}
 use Rattle.layouts.specs.Groups.{values, Group}
 use Rattle.layouts.specs.Formats.{Answer, refused, got, andThen, Format, done, ask, Trace, fitsIn}
 use Rattle.layouts.specs.Offsets.{runAt, itemAt}
@@ -19,13 +18,13 @@ use Rattle.layouts.specs.Tables.{layout}
 use Rattle.layouts.specs.Categories.{Category, known, category}
 use Rattle.layouts.specs.declared.form.Form.{Form}
 use Rattle.layouts.specs.declared.form.Form.the-variants as form
-use Rattle.layouts.proofs.Answers.{both, got-refused, pick-no, pick-yes, through, OfGot, choose}
+use Rattle.layouts.proofs.Answers.{both, got-refused, pick-no, through, OfGot, choose}
 use Rattle.items.specs.Typed.{val, itemOf, traceOf}
 use Rattle.items.specs.declared.typed.Item.{Item}
 use Rattle.items.proofs.Items.{typed-trace}
 use Rattle.blocks.specs.Specification.{flags}
 use Rattle.blocks.specs.Marks.{marksOf, flagsOf}
-use Rattle.blocks.specs.Records.{Rec, formats, isUnused, layoutOf, marksRefusal, present}
+use Rattle.blocks.specs.Records.{Rec, formats, isUnused, layoutOf}
 use Rattle.blocks.specs.Offsets.{specsAt, itemsAt, recordAt}
 use Rattle.blocks.specs.Typed.{fieldFor, placeIn, typedRec}
 use Rattle.blocks.specs.Steps.{itemsFrom}
@@ -33,12 +32,13 @@ use Rattle.blocks.specs.Meaning.{itemIn, sevens, valuesOf, recOf}
 use Rattle.blocks.specs.declared.record.Record.{Record}
 use Rattle.blocks.proofs.MarksLaws.{flags-long, flags-32, marks-one, marks-cons, specs-marked}
 use Rattle.blocks.proofs.WalkSteps.{by-known, Table, table, item-run}
-use Rattle.blocks.proofs.ItemStarts.{startIn, items-there}
+use Rattle.blocks.proofs.ItemStarts.{startIn, formats-at, items-there}
+use Rattle.blocks.proofs.ReadSteps.{record-parts}
 
 -- The marks
 
 -- numbers of seven marks each
-abbrev Sevens : List ℕ → Type 0
+abbrev pub Sevens : List ℕ → Type 0
 Sevens [] = Unit {0}
 Sevens (g ∷ gs) = (g < 128) × Sevens gs
 
@@ -74,7 +74,7 @@ bits g l =
         → g / 64 % 2 * 64 + e % 2 * 32 + d % 2 * 16 + c % 2 * 8 + b % 2 * 4 + a % 2 * 2 + g % 2 ≡ g
     sum a b c d e ha hb hc hd he hf = omega arith
 
-two : (x : ℕ) → x % 2 < 2
+pub two : (x : ℕ) → x % 2 < 2
 two x = omega arith
 
 pub low-bit : (n x m : ℕ) → x < 2 → n ≡ x + m * 2 → n % 2 ≡ x
@@ -138,15 +138,6 @@ module _ (s : List ℕ) (t : Record) where
   values-each (b ∷ bs) (f ∷ fs) [] l h = absurd (omega arith)
   values-each (b ∷ bs) (f ∷ fs) (tr ∷ trs) l h =
       rw (h 0 (omega arith), values-each bs fs trs (omega arith) (λ n m. h (suc n) (omega arith)))
-
--- the format at a field
-format-at : (bs : List Bool) (fs : List Form) (n : ℕ) → n < length fs
-    → getD (formats bs fs) n done ≡ pick (getD bs n false) (format (layout (getD fs n Form.Spare))) done
-unfolding formats
-format-at [] fs n h = refl
-format-at (b ∷ bs) [] n h = absurd (omega arith)
-format-at (b ∷ bs) (f ∷ fs) zero h = refl
-format-at (b ∷ bs) (f ∷ fs) (suc n) h = format-at bs fs n (omega arith)
 
 module _ (s : List ℕ) (len : ℕ) where
   items-long : (fs : List Format) (at q : ℕ) (trs : List Trace) → itemsAt s len fs at ≡ got trs q → length trs ≡ length fs
@@ -294,7 +285,7 @@ module _ (s : List ℕ) (len : ℕ) (c : Category) (w : Forms c) (gs : List ℕ)
 
     there : itemAt s len (pick (getD (flags gs) n false) (format (layout f)) done) (start n) ≡ got (getD trs n []) (start (suc n))
     unfolding layoutOf
-    there = rw (format-at (flags gs) (c .fields) n l) at (items-there s len (layoutOf c gs) p q trs h n)
+    there = rw (formats-at (flags gs) (c .fields) n (λ e. l)) at (items-there s len (layoutOf c gs) p q trs h n)
 
     value-means : pick (getD (flags gs) n false) (traceOf s (itemIn t f)) [] ≡ getD trs n []
     value-means = either-means f n (start (suc n)) own (getD (flags gs) n false) there
@@ -310,31 +301,6 @@ module _ (s : List ℕ) (len : ℕ) (c : Category) (w : Forms c) (gs : List ℕ)
   values-mean : (q : ℕ) → itemsAt s len (layoutOf c gs) p ≡ got trs q → valuesOf s t (flags gs) (c .fields) ≡ trs
   unfolding layoutOf
   values-mean q h = values-each s t (flags gs) (c .fields) trs (items-long s len (layoutOf c gs) p q trs h) (value-means q h)
-
--- the specification of a record that was read, and its items; neither is refused, and presence is not
-module _ (s : List ℕ) (len : ℕ) (c : Category) (at : ℕ) where
-  abbrev pub Parts : ℕ → Rec → Type 0
-  Parts q r =
-      (p : ℕ) × (specsAt s len (c .most - 1) at ≡ got (r .marks) p)
-      × (itemsAt s len (layoutOf c (r .marks)) p ≡ got (r .items) q)
-      × (eqb (marksRefusal c (r .marks)) 0 ≡ true) × (present c (r .marks) (r .items) ≡ true)
-
-  same-parts : (gs : List ℕ) (trs : List Trace) (p q' q : ℕ) (r : Rec) → got (record { marks = gs; items = trs }) q' ≡ got r q
-      → specsAt s len (c .most - 1) at ≡ got gs p → itemsAt s len (layoutOf c gs) p ≡ got trs q'
-      → eqb (marksRefusal c gs) 0 ≡ true → present c gs trs ≡ true → Parts q r
-  same-parts gs trs p q' q r end e e' z y =
-      let is : record { marks = gs; items = trs } ≡ r = cc in
-      let same : q' ≡ q = cc in
-      subst (Parts q) is (p, e, rw same at e', z, y)
-
-  pub record-parts : (q : ℕ) (r : Rec) → recordAt s len c at ≡ got r q → Parts q r
-  unfolding recordAt
-  record-parts q r h =
-      let (gs, p, e, h') = through (specsAt s len (c .most - 1) at) h in
-      let (z, h'') = pick-yes (eqb (marksRefusal c gs) 0) _ _ h' in
-      let (trs, q', e', last) = through (itemsAt s len (layoutOf c gs) p) h'' in
-      let (y, end) = pick-yes (present c gs trs) presenceBroken (got (record { marks = gs; items = trs }) q') last in
-      same-parts gs trs p q' q r end e e' z y
 
 -- the record that a typed record means, by its parts
 rec-of : (s : List ℕ) (t : Record) (c : Category) (gs : List ℕ) (trs : List Trace) → category (t .category) ≡ c

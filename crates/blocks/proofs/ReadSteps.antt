@@ -42,6 +42,31 @@ counted-one len count r (all cat rs) =
     let e : count + suc (length rs) ≡ count + 1 + length rs = omega arith in
     rw e
 
+-- the specification of a record that was read, and its items; neither is refused, and presence is not
+module _ (s : List ℕ) (len : ℕ) (c : Category) (at : ℕ) where
+  abbrev pub Parts : ℕ → Rec → Type 0
+  Parts q r =
+      (p : ℕ) × (specsAt s len (c .most - 1) at ≡ got (r .marks) p)
+      × (itemsAt s len (layoutOf c (r .marks)) p ≡ got (r .items) q)
+      × (eqb (marksRefusal c (r .marks)) 0 ≡ true) × (present c (r .marks) (r .items) ≡ true)
+
+  same-parts : (gs : List ℕ) (trs : List Trace) (p q' q : ℕ) (r : Rec) → got (record { marks = gs; items = trs }) q' ≡ got r q
+      → specsAt s len (c .most - 1) at ≡ got gs p → itemsAt s len (layoutOf c gs) p ≡ got trs q'
+      → eqb (marksRefusal c gs) 0 ≡ true → present c gs trs ≡ true → Parts q r
+  same-parts gs trs p q' q r end e e' z y =
+      let is : record { marks = gs; items = trs } ≡ r = cc in
+      let same : q' ≡ q = cc in
+      subst (Parts q) is (p, e, rw same at e', z, y)
+
+  pub record-parts : (q : ℕ) (r : Rec) → recordAt s len c at ≡ got r q → Parts q r
+  unfolding recordAt
+  record-parts q r h =
+      let (gs, p, e, h') = through (specsAt s len (c .most - 1) at) h in
+      let (z, h'') = pick-yes (eqb (marksRefusal c gs) 0) _ _ h' in
+      let (trs, q', e', last) = through (itemsAt s len (layoutOf c gs) p) h'' in
+      let (y, end) = pick-yes (present c gs trs) presenceBroken (got (record { marks = gs; items = trs }) q') last in
+      same-parts gs trs p q' q r end e e' z y
+
 module _ (s : List ℕ) (len : ℕ) (c : Category) where
   items-within : (fs : List Format) (at q : ℕ) (trs : List Trace) → at ≤ len → itemsAt s len fs at ≡ got trs q → (at ≤ q) × (q ≤ len)
   unfolding itemsAt
@@ -56,15 +81,10 @@ module _ (s : List ℕ) (len : ℕ) (c : Category) where
 
   -- a record has an octet at least, and lies within the block
   pub record-within : Octets s → (at q : ℕ) (r : Rec) → recordAt s len c at ≡ got r q → (at < q) × (q ≤ len)
-  unfolding recordAt
   record-within o at q r h =
-      let (gs, p, e, h') = through (specsAt s len (c .most - 1) at) h in
-      let w = specs-marked s len (c .most - 1) at gs p o e in
-      let (z, h'') = pick-yes (eqb (marksRefusal c gs) 0) _ _ h' in
-      let (trs, q', e', last) = through (itemsAt s len (layoutOf c gs) p) h'' in
-      let (y, end) = pick-yes (present c gs trs) presenceBroken (got (record { marks = gs; items = trs }) q') last in
-      let same : q' ≡ q = cc in
-      let (a, b) = items-within (layoutOf c gs) p q' trs (w .within) e' in
+      let (p, e, e', z, y) = record-parts s len c at q r h in
+      let w = specs-marked s len (c .most - 1) at (r .marks) p o e in
+      let (a, b) = items-within (layoutOf c (r .marks)) p q (r .items) (w .within) e' in
       (omega arith, omega arith)
 
   pub records-end : (m at : ℕ) → len ≤ at → recordsAt s len c m at ≡ all (c .number) []

@@ -57,9 +57,9 @@ module _ (s t : List ℕ) (start : ℕ) where
       entries-same x q w l =
           let g = header-good s (w .cat) (w .len) (w .head) in
           let g' = header-good t (w .cat) (w .len) (sym (same .head) ∙ w .head) in
-          let a = entry-values s (w .len) (w .cat) start o (g .fits) (g .known) (w .r) q (w .is) x (w .same) k l in
-          let b = entry-values t (w .len) (w .cat) start o' (g' .fits) (g' .known) (w .r) q
-          (sym (same .is (w .cat) (w .len) (w .head)) ∙ w .is) x (rw (← same .from (w .cat) (w .len) (w .head)) (w .same)) k l in
+          let a = entry-values s (w .len) (w .cat) start o (g .fits) (g .known) (w .taking .r) q (w .taking .is) x (w .taking .same) k l in
+          let b = entry-values t (w .len) (w .cat) start o' (g' .fits) (g' .known) (w .taking .r) q
+          (sym (same .is (w .cat) (w .len) (w .head)) ∙ w .taking .is) x (rw (← same .from (w .cat) (w .len) (w .head)) (w .taking .same)) k l in
           a ∙ sym b
 
       abbrev found : List ℕ → Record → Found

@@ -109,6 +109,33 @@ module _ (s : List ℕ) (start : ℕ) where
 pub not-taken : {n at : ℕ} {t : Record} {c : Cursor} → Step.Refused n at ≡ Step.Taken t c → ⊥
 not-taken h = let z : _≡_ {A = ℕ} 0 1 = cc in omega arith
 
+-- what a step inside a block says
+module _ (s : List ℕ) (len number at : ℕ) where
+  -- of the record that was taken
+  pub record Taking (t : Record) (next : ℕ) : Type 0 where
+    pub r : Rec
+    pub is : recordAt s len (category number) at ≡ got r next
+    pub same : t ≡ typedRec (category number) r (itemsFrom s len (category number) at)
+
+  abbrev by : Answer ℕ Rec → Step
+  by = takenBy Step.Refused (λ t q. Step.Taken t (record { at = q })) (category number) at (itemsFrom s len (category number) at)
+
+  pub take-took : (t : Record) (c : Cursor) → takeOf s len number at ≡ Step.Taken t c → Taking t (c .at)
+  unfolding takeOf takeBy
+  take-took t c = go (recordAt s len (category number) at) refl
+    where
+      go : (a : Answer ℕ Rec) → recordAt s len (category number) at ≡ a → by a ≡ Step.Taken t c → Taking t (c .at)
+      go (refused n) e h = absurd (not-taken h)
+      go (got r q) e h = record { r = r; is = e ∙ cc; same = cc }
+
+  pub take-stopped : (n p : ℕ) → takeOf s len number at ≡ Step.Refused n p → recordAt s len (category number) at ≡ refused n
+  unfolding takeOf takeBy
+  take-stopped n p = go (recordAt s len (category number) at) refl
+    where
+      go : (a : Answer ℕ Rec) → recordAt s len (category number) at ≡ a → by a ≡ Step.Refused n p → recordAt s len (category number) at ≡ refused n
+      go (refused m) e h = e ∙ cc
+      go (got r q) e h = absurd (not-taken (sym h))
+
 -- what a step that was taken says
 pub record Took (s : List ℕ) (start : ℕ) (t : Record) (next : ℕ) : Type 0 where
   pub cat : ℕ
@@ -116,44 +143,27 @@ pub record Took (s : List ℕ) (start : ℕ) (t : Record) (next : ℕ) : Type 0 
   pub head : headerOf s ≡ Head.Good cat len
   pub low : 3 ≤ start
   pub more : start < len
-  pub r : Rec
-  pub is : recordAt s len (category cat) start ≡ got r next
-  pub same : t ≡ typedRec (category cat) r (itemsFrom s len (category cat) start)
+  pub taking : Taking s len cat start t next
 
 pub step-took : (s : List ℕ) (start : ℕ) (t : Record) (c : Cursor) → stepOf s start ≡ Step.Taken t c → Took s start t (c .at)
-unfolding stepOf stepBy takeBy
+unfolding stepOf stepBy takeOf
 step-took s start t c = by-head (headerOf s) refl
   where
-    no : ℕ → ℕ → Step
-    no = Step.Refused
-
-    yes : Record → ℕ → Step
-    yes = λ t q. Step.Taken t (record { at = q })
-
-    by-record : (cat len : ℕ) → headerOf s ≡ Head.Good cat len → 3 ≤ start → start < len
-        → (a : Answer ℕ Rec) → recordAt s len (category cat) start ≡ a
-        → takenBy no yes (category cat) start (itemsFrom s len (category cat) start) a ≡ Step.Taken t c → Took s start t (c .at)
-    by-record cat len e l m (refused n) f h = absurd (not-taken h)
-    by-record cat len e l m (got r q) f h = record {
+    by-start : (cat len : ℕ) → headerOf s ≡ Head.Good cat len → (a b : Bool) → ltb start 3 ≡ a → leb len start ≡ b
+        → pick (a || b) (Step.Refused noSuch 0) (takeOf s len cat start) ≡ Step.Taken t c → Took s start t (c .at)
+    by-start cat len e true b f g h = absurd (not-taken h)
+    by-start cat len e false true f g h = absurd (not-taken h)
+    by-start cat len e false false f g h = record {
       cat = cat;
       len = len;
       head = e;
-      low = l;
-      more = m;
-      r = r;
-      is = f ∙ cc;
-      same = cc;
+      low = ltb-false start 3 f;
+      more = leb-false len start g;
+      taking = take-took s len cat start t c h;
     }
 
-    by-start : (cat len : ℕ) → headerOf s ≡ Head.Good cat len → (a b : Bool) → ltb start 3 ≡ a → leb len start ≡ b
-        → pick (a || b) (no noSuch 0) (takenBy no yes (category cat) start (itemsFrom s len (category cat) start) (recordAt s len (category cat) start)) ≡ Step.Taken t c
+    by-head : (h : Head) → headerOf s ≡ h → stepFrom Step.Refused (λ t q. Step.Taken t (record { at = q })) s start h ≡ Step.Taken t c
         → Took s start t (c .at)
-    by-start cat len e true b f g h = absurd (not-taken h)
-    by-start cat len e false true f g h = absurd (not-taken h)
-    by-start cat len e false false f g h =
-        by-record cat len e (ltb-false start 3 f) (leb-false len start g) (recordAt s len (category cat) start) refl h
-
-    by-head : (h : Head) → headerOf s ≡ h → stepFrom no yes s start h ≡ Step.Taken t c → Took s start t (c .at)
     by-head (head.Refused n) e h = absurd (not-taken h)
     by-head (head.Good cat len) e h = by-start cat len e (ltb start 3) (leb len start) refl refl h
 
@@ -207,5 +217,5 @@ pub entries-room : (s : List ℕ) (start : ℕ) (t : Record) (c : Cursor) → Oc
 entries-room s start t c o h =
     let w = step-took s start t c (sym h) in
     let g = header-good s (w .cat) (w .len) (w .head) in
-    let l = entries-within s (w .len) (w .cat) start o (g .fits) (g .known) (w .r) (c .at) (w .is) t (w .same) in
+    let l = entries-within s (w .len) (w .cat) start o (g .fits) (g .known) (w .taking .r) (c .at) (w .taking .is) t (w .taking .same) in
     (let f = g .fits in omega arith)

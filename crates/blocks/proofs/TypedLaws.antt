@@ -1,6 +1,6 @@
 -- The typed record that is made by octets is the record that was read, and its entries lie within the block. Assumes nothing.
-use mathlib.Core.Path.{_≡_, refl, sym, ap, _∙_, subst}
-use mathlib.Core.Bool.{Bool, true, false}
+use mathlib.Core.Path.{_≡_, refl, sym, ap, _∙_}
+use mathlib.Core.Bool.{Bool, true, false, false≢true}
 use mathlib.Core.List.{List, [], _∷_}
 use Prim.Native.Nat.{ℕ, zero, suc, _+_, _*_, _-_, _<_, _≤_}
 use native.Mathlib.Nat.{zero-add, add-zero, zero-mul, suc-mul, div-one}
@@ -10,10 +10,10 @@ use lib.Dec.{leb, eqb, eqb·suc-zero}
 use lib.ListN.{length, getD}
 use Rattle.octets.specs.Choice.{pick}
 use Rattle.octets.specs.Numbers.{Octets, number}
-use Rattle.octets.specs.Refusals.{noCount, presenceBroken}
+use Rattle.octets.specs.Refusals.{noCount}
 use Rattle.layouts.specs.Groups.{values, Group}
 use Rattle.layouts.specs.Formats.{got, Format, done, stop, Trace}
-use Rattle.layouts.specs.Offsets.{runAt, traceAt}
+use Rattle.layouts.specs.Offsets.{runAt, traceAt, groupsAt}
 use Rattle.layouts.specs.Layouts.{octet, times, counted, format, kindOf}
 use Rattle.layouts.specs.Ends.{kindEnd, endOf}
 use Rattle.layouts.specs.Tables.{counter, version, layout}
@@ -21,7 +21,6 @@ use Rattle.layouts.specs.Categories.{Category, known, category, layoutAt}
 use Rattle.layouts.specs.declared.ends.End.the-variants.{At}
 use Rattle.layouts.specs.declared.form.Form.{Form}
 use Rattle.layouts.specs.declared.form.Form.the-variants as form
-use Rattle.layouts.proofs.Answers.{pick-yes, through}
 use Rattle.layouts.proofs.KindEnds.{forms-sound, kind-end, end-room}
 use Rattle.layouts.proofs.Windows.{run-trace, run-within}
 use Rattle.items.specs.Typed.{val, placeAt}
@@ -29,7 +28,7 @@ use Rattle.items.specs.declared.typed.Place.{Place}
 use Rattle.items.proofs.Judged.{counted-read}
 use Rattle.blocks.specs.Specification.{flags}
 use Rattle.blocks.specs.Marks.{marksOf}
-use Rattle.blocks.specs.Records.{Rec, formats, layoutOf, marksRefusal, present, putItems}
+use Rattle.blocks.specs.Records.{Rec, layoutOf, putItems}
 use Rattle.blocks.specs.Offsets.{specsAt, itemsAt, recordAt}
 use Rattle.blocks.specs.Typed.{typed, turn, further, fieldFor, placeIn, valuesFor, startFor, typedRec, endFrom, marked, behind, startOf, startBy, typedOf}
 use Rattle.blocks.specs.Steps.{itemsFrom, typedBehind, entryGroupOf, entryValues}
@@ -37,7 +36,9 @@ use Rattle.blocks.specs.declared.record.Record.{Record}
 use Rattle.blocks.proofs.AtEnd.{end-value, end-place}
 use Rattle.blocks.proofs.MarksLaws.{flags-32, flags-long, mark-more, specs-marked}
 use Rattle.blocks.proofs.WalkSteps.{item-run, table}
-use Rattle.blocks.proofs.ItemStarts.{startIn, items-there}
+use Rattle.blocks.proofs.ItemStarts.{startIn, formats-at, items-there}
+use Rattle.items.proofs.Items.{times-trace}
+use Rattle.blocks.proofs.ReadSteps.{record-parts}
 
 -- The field of a form has that form
 
@@ -84,6 +85,15 @@ data Held (s : List ℕ) (len : ℕ) (f : Format) (start : ℕ) (tr : Trace) (fr
   here : (q : ℕ) → start ≡ from → from < length s → runAt s len f from ≡ got tr q → Held s len f start tr from
   none : start ≡ length s → tr ≡ [] → Held s len f start tr from
 
+-- group j of n from an offset
+pub groups-at : (s : List ℕ) (n : ℕ) (g : Group) (at j : ℕ) → j < n → getD (groupsAt n g s at) j [] ≡ entryValues s g at j
+unfolding groupsAt
+groups-at s zero g at j l = absurd (omega arith)
+groups-at s (suc n) g at zero l = rw (zero-mul, add-zero)
+groups-at s (suc n) g at (suc j) l =
+    groups-at s n g (at + g .wide) j (omega arith)
+    ∙ rw (suc-mul j (g .wide)) (ap (λ (i : ℕ). values (g .parts) (number (g .wide) s i)) (omega arith))
+
 module _ (s : List ℕ) (len : ℕ) where
   -- either way its values are those at its start
   held-value : (f : Format) (start : ℕ) (tr : Trace) (from : ℕ) → Held s len f start tr from → (j i : ℕ) → val (traceAt f s start) j i ≡ val tr j i
@@ -97,13 +107,6 @@ module _ (s : List ℕ) (len : ℕ) where
   held-place f e g start tr from is (here q z l h) d =
       rw (z, lt-leb (length s) from l, run-trace s len f from tr q h, is, add-zero, div-one, zero-add)
   held-place f e g start tr from is (none z n) d = rw (z, n) (end-place s d)
-
-  times-entry : (m : ℕ) (g : Group) (at n : ℕ) → n < m → getD (traceAt (times m g) s at) n [] ≡ values (g .parts) (number (g .wide) s (at + n * g .wide))
-  unfolding traceAt times
-  times-entry zero g at n l = absurd (omega arith)
-  times-entry (suc m) g at zero l = rw (zero-mul, add-zero)
-  times-entry (suc m) g at (suc n) l =
-      times-entry m g (at + g .wide) n (omega arith) ∙ rw (suc-mul n (g .wide)) (ap (λ (x : ℕ). values (g .parts) (number (g .wide) s x)) (omega arith))
 
   -- entries that were read lie within the block
   held-within : len ≤ length s → (f : Format) (g : Group) (start : ℕ) (tr : Trace) (from : ℕ) → f ≡ counted 0 g → Held s len f start tr from
@@ -129,16 +132,13 @@ module _ (s : List ℕ) (len : ℕ) where
   held-entry fit f g start (v ∷ tr) from is (here q z i h) n l =
       let some = counted-read s len fit 0 g from (v ∷ tr) q (rw is at h) .0 in
       let e = counted-trace g from v tr (run-trace s len (counted 0 g) from (v ∷ tr) q (rw is at h)) in
-      rw (e, lt-leb (getD v 0 0) 0 some) (sym (times-entry (getD v 0 0 - 0) g (from + 1) n l))
+      rw (e, lt-leb (getD v 0 0) 0 some) (rw (times-trace (getD v 0 0 - 0) g s (from + 1)) (sym (groups-at s (getD v 0 0 - 0) g (from + 1) n l)))
 
--- a marked field's format is that of its form
-formats-at : (bs : List Bool) (fs : List Form) → length bs ≤ length fs → (n : ℕ)
-    → getD (formats bs fs) n done ≡ pick (getD bs n false) (format (layout (getD fs n Form.Spare))) done
-unfolding formats
-formats-at [] fs h n = refl
-formats-at (b ∷ bs) [] h n = absurd (omega arith)
-formats-at (b ∷ bs) (f ∷ fs) h zero = refl
-formats-at (b ∷ bs) (f ∷ fs) h (suc n) = formats-at bs fs (omega arith) n
+-- a mark is one of the marks there are
+mark-inside : (bs : List Bool) (n : ℕ) → getD bs n false ≡ true → n < length bs
+mark-inside [] n e = absurd (false≢true e)
+mark-inside (b ∷ bs) zero e = omega arith
+mark-inside (b ∷ bs) (suc n) e = omega (arith, mark-inside bs n e)
 
 -- The items behind a specification with the marks gs, field by field
 module _ (s : List ℕ) (len : ℕ) (c : Category) (gs : List ℕ) (p : ℕ) (trs : List Trace) (q : ℕ)
@@ -168,7 +168,7 @@ module _ (s : List ℕ) (len : ℕ) (c : Category) (gs : List ℕ) (p : ℕ) (tr
 
   stands : (n : ℕ) → Stands n (getD (flags gs) n false)
   unfolding layoutOf runAt
-  stands n = go (getD (flags gs) n false) (formats-at (flags gs) (c .fields) long n) (there n)
+  stands n = go (getD (flags gs) n false) (formats-at (flags gs) (c .fields) n (λ e. omega (arith, mark-inside (flags gs) n e))) (there n)
     where
       go : (b : Bool) → getD (layoutOf c gs) n done ≡ pick b (format (layoutAt c (suc n))) done
           → runAt s len (getD (layoutOf c gs) n done) (start n) ≡ got (getD trs n []) (start (suc n)) → Stands n b
@@ -238,27 +238,17 @@ module _ (s : List ℕ) (len number at : ℕ) (o : Octets s) (fit : len ≤ leng
         (valuesFor (category number) r behind f) (startFor (category number) r behind f)
 
   taken : (r : Rec) (q : ℕ) → recordAt s len (category number) at ≡ got r q → Taken r
-  unfolding recordAt
   taken r q h =
       let c = category number in
-      let (gs, p, e, h') = through (specsAt s len (c .most - 1) at) h in
-      let (z, h'') = pick-yes (eqb (marksRefusal c gs) 0) _ _ h' in
-      let (trs, q', e', last) = through (itemsAt s len (layoutOf c gs) p) h'' in
-      let (y, end) = pick-yes (present c gs trs) presenceBroken (got (record { marks = gs; items = trs }) q') last in
-      let is : record { marks = gs; items = trs } ≡ r = cc in
-      subst Taken is (go gs p e trs q' e')
-    where
-      go : (gs : List ℕ) (p : ℕ) → specsAt s len (category number .most - 1) at ≡ got gs p
-          → (trs : List Trace) (q : ℕ) → itemsAt s len (layoutOf (category number) gs) p ≡ got trs q → Taken (record { marks = gs; items = trs })
-      go gs p e trs q e' =
-          let c = category number in
-          let t = table number k in
-          let w = specs-marked s len (c .most - 1) at gs p o e in
-          record {
-            behind = p;
-            spec = e;
-            items = λ f. held s len c gs p trs q o fit (w .within) (omega arith) (omega (arith, flags-long gs)) e' f (fieldFor (c .fields) f) refl;
-          }
+      let t = table number k in
+      let (p, e, e', z, y) = record-parts s len c at q r h in
+      let w = specs-marked s len (c .most - 1) at (r .marks) p o e in
+      record {
+        behind = p;
+        spec = e;
+        items = λ f.
+            held s len c (r .marks) p (r .items) q o fit (w .within) (omega arith) (omega (arith, flags-long (r .marks))) e' f (fieldFor (c .fields) f) refl;
+      }
 
   -- The typed record that is made by octets is the record that was read.
   pub typed-good : (r : Rec) (q : ℕ) → recordAt s len (category number) at ≡ got r q

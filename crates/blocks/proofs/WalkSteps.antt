@@ -11,7 +11,7 @@ use lib.ListN.{length, getD, drop, replicate, drop-of-length-le}
 use lib.Seq.{drop-cons}
 use Rattle.octets.specs.Choice.{pick}
 use Rattle.octets.specs.Numbers.{Octets, number}
-use Rattle.octets.specs.Refusals.{longSpecification, spareMarked, noneMarked, presenceBroken}
+use Rattle.octets.specs.Refusals.{longSpecification, presenceBroken}
 use Rattle.layouts.specs.Groups.{values}
 use Rattle.layouts.specs.Formats.{Answer, refused, got, andThen, Format, done, Trace, fitsIn}
 use Rattle.layouts.specs.Offsets.{runAt, itemAt, traceAt}
@@ -28,7 +28,7 @@ use Rattle.layouts.specs.declared.form.Form.{Form}
 use Rattle.blocks.specs.Specification.{flags}
 use Rattle.blocks.specs.Presence.{rowsOf, meets}
 use Rattle.blocks.specs.Marks.{marksOf, flagsOf, groupsOf}
-use Rattle.blocks.specs.Records.{Rec, formats, marksSpare, layoutOf, marksRefusal, typeOf, present}
+use Rattle.blocks.specs.Records.{Rec, formats, layoutOf, marksRefusal, numberRefusal, typeOf, present}
 use Rattle.blocks.specs.Offsets.{specsAt, itemsAt, recordAt}
 use Rattle.blocks.specs.Walks.{onward, runOf, typeFrom, afterItems, restOf}
 use Rattle.blocks.specs.declared.walk.Walked.{Walked}
@@ -259,7 +259,7 @@ module _ (s : List ℕ) (len : ℕ) (c : Category) (at : ℕ) where
 
   module _ (n : ℕ) (t : Table n c) (p : ℕ) (sp : Spec p) (budget count : ℕ) (more : at < len) (some : budget ≡ suc (budget - 1))
       (marks : ℕ) (is : marks ≡ marksOf (flags (groupsOf (p - at) s at)))
-      (w : ℕ) (judged : w ≡ pick (eqb marks 0) noneMarked (pick (marksSpare (flagsOf 32 marks) (c .fields)) spareMarked 0)) where
+      (w : ℕ) (judged : w ≡ numberRefusal c marks) where
     abbrev gs : List ℕ
     gs = sp .gs
 

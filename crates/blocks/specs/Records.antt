@@ -12,6 +12,7 @@ use Rattle.layouts.specs.Tables.{layout}
 use Rattle.layouts.specs.Categories.{Category}
 use Rattle.layouts.specs.declared.form.Form.{Form}
 use Rattle.blocks.specs.Specification.{specs, zeros, putMarks, flags}
+use Rattle.blocks.specs.Marks.{flagsOf}
 use Rattle.blocks.specs.Presence.{rowsOf, meets}
 
 -- the marks, seven to a number, and for each field its values: none where it is not marked
@@ -45,6 +46,10 @@ layoutOf c gs = formats (flags gs) (c .fields)
 -- 6 for no mark, 5 for one of a spare field, else 0
 unfoldable pub marksRefusal : Category → List ℕ → ℕ
 marksRefusal c gs = pick (zeros gs) noneMarked (pick (marksSpare (flags gs) (c .fields)) spareMarked 0)
+
+-- the same of marks as a number: one past the category's last is spare
+abbrev pub numberRefusal : Category → ℕ → ℕ
+numberRefusal c m = pick (eqb m 0) noneMarked (pick (marksSpare (flagsOf 32 m) (c .fields)) spareMarked 0)
 
 -- the record's type: the value of item 000, field 2; category 242 has none
 abbrev pub typeOf : Category → List Trace → ℕ

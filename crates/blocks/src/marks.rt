@@ -7,10 +7,7 @@ ghost use lib.ListN.{length, getD};
 ghost use Rattle.layouts.specs.Categories.{category, known};
 ghost use Rattle.blocks.specs.Specification.{flags};
 ghost use Rattle.blocks.specs.Marks.{marksOf, flagsOf, groupsOf, isSpare};
-ghost use Rattle.blocks.specs.Records.{marksSpare};
-ghost use Rattle.octets.specs.Choice.{pick};
-ghost use lib.Dec.{eqb};
-ghost use Rattle.octets.specs.Refusals.{spareMarked, noneMarked};
+ghost use Rattle.blocks.specs.Records.{marksSpare, numberRefusal};
 use layouts::ends::Kind;
 use octets::refusal;
 
@@ -96,7 +93,7 @@ fn marks_spare(number: u8, marks: u32) -> bool
 
 // 6 for no mark, 5 for one of a spare field or one past the category's last.
 pub fn marks_refusal(number: u8, marks: u32) -> u8
-    ensures { λ r. ⌜ r ≡ pick (eqb marks 0) noneMarked (pick (marksSpare (flagsOf 32 marks) (category number .fields)) spareMarked 0) ⌝ }
+    ensures { λ r. ⌜ r ≡ numberRefusal (category number) marks ⌝ }
 {
     if marks == 0 {
         return refusal::NONE_MARKED;

@@ -103,7 +103,7 @@ module _ (s : List ℕ) (at : ℕ) where
   item-code f k size first second b hk hs hf he = rw (he, hf, hs, hk) (item-read f b)
 
 -- the trace of n groups
-times-trace : (n : ℕ) (g : Group) (s : List ℕ) (at : ℕ) → traceAt (times n g) s at ≡ groupsAt n g s at
+pub times-trace : (n : ℕ) (g : Group) (s : List ℕ) (at : ℕ) → traceAt (times n g) s at ≡ groupsAt n g s at
 unfolding times traceAt groupsAt
 times-trace zero g s at = refl
 times-trace (suc n) g s at = ap (λ (tr : Trace). values (g .parts) (number (g .wide) s at) ∷ tr) (times-trace n g s (at + g .wide))

@@ -45,6 +45,19 @@ block-laid l cat rs n e h =
 pub header-same : (l l' : List ℕ) (number len : ℕ) → 3 ≤ length l → l' ≡ laid l 0 (headerOctets number len) → length l' ≡ length l
 header-same l l' number len h e = rw e (length-laid l 0 (headerOctets number len) (omega (arith, header-long number len)))
 
+-- the header laid, and then the records
+module _ (cat : ℕ) (rs : List Rec) (n : ℕ) (is : n ≡ length (putRecs (category cat) rs)) (l l₁ : List ℕ) (h : n + 3 ≤ length l)
+    (e : l₁ ≡ laid l 0 (headerOctets cat (n + 3))) where
+  pub body-room : 3 + length (putRecs (category cat) rs) ≤ length l₁
+  body-room = omega (arith, is, header-same l l₁ cat (n + 3) (omega arith) e)
+
+  module _ (l₂ : List ℕ) (f : l₂ ≡ laid l₁ 3 (putRecs (category cat) rs)) where
+    pub body-same : length l₂ ≡ length l
+    body-same = rw f (length-laid l₁ 3 (putRecs (category cat) rs) body-room ∙ header-same l l₁ cat (n + 3) (omega arith) e)
+
+    pub body-laid : l₂ ≡ laid l 0 (putBlock cat rs)
+    body-laid = f ∙ rw e (block-laid l cat rs n is h)
+
 -- The answer and the output
 
 -- what a function that writes says of its outcome

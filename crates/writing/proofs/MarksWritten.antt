@@ -24,7 +24,7 @@ use Rattle.blocks.specs.Marks.{flagsOf}
 use Rattle.blocks.specs.Records.{formats, isUnused, marksSpare, layoutOf, marksRefusal, typeOf, present, putRec}
 use Rattle.blocks.specs.Meaning.{itemIn, sevens, valuesOf, recOf}
 use Rattle.blocks.specs.declared.record.Record.{Record}
-use Rattle.blocks.proofs.MeaningLaws.{low-bit}
+use Rattle.blocks.proofs.MeaningLaws.{two, low-bit}
 use Rattle.blocks.proofs.MarksLaws.{flags-long, no-flags, formats-more, spare-more, meets-more}
 use Rattle.blocks.proofs.WalkSteps.{by-known, Table, table}
 use Rattle.writing.specs.Judged.{itemsOctets, markedRefusal, recordOctets, typeIn, specificationOctet}
@@ -51,9 +51,6 @@ whole m =
     join m (m / 2) (m / 4) (m / 8) (m / 16) (m / 32) (m / 64) (m / 128) _ _ _ _ _ _ _
     (omega arith) (half m 2 _ (omega arith)) (half m 4 _ (omega arith)) (half m 8 _ (omega arith))
     (half m 16 _ (omega arith)) (half m 32 _ (omega arith)) (half m 64 _ (omega arith))
-
-two : (x : ℕ) → x % 2 < 2
-two x = omega arith
 
 -- a number of seven bits, by its bits
 module _ (a b c d e f g : ℕ) (la : a < 2) (lb : b < 2) (lc : c < 2) (ld : d < 2) (le : e < 2) (lf : f < 2) (lg : g < 2)

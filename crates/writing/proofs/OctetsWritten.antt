@@ -17,6 +17,7 @@ use Rattle.blocks.specs.Specification.{zeros, putMarks}
 use Rattle.blocks.specs.Records.{Rec, layoutOf, putItems, putRec}
 use Rattle.blocks.specs.Blocks.{putRecs, putBlock}
 use Rattle.blocks.specs.Meaning.{sevens}
+use Rattle.blocks.proofs.MeaningLaws.{Sevens}
 
 pub joined : (a b : List ℕ) → Octets a → Octets b → Octets (a ++ b)
 joined a b o p i = go (ltb i (length a)) refl
@@ -54,18 +55,14 @@ items-are [] trs xs = none
 items-are (f ∷ fs) [] xs = none
 items-are (f ∷ fs) (tr ∷ trs) xs = joined (put f tr (getD xs 0 [])) (putItems fs trs (drop 1 xs)) (put-are f tr _) (items-are fs trs (drop 1 xs))
 
--- marks, seven to a number
-abbrev pub Sevens : List ℕ → Type 0
-Sevens gs = (i : ℕ) → getD gs i 0 < 128
-
 marks-are : (gs : List ℕ) → Sevens gs → Octets (putMarks gs)
 unfolding putMarks
 marks-are [] h = none
-marks-are (g ∷ gs) h = go (zeros gs) (marks-are gs (λ i. h (suc i)))
+marks-are (g ∷ gs) h = go (zeros gs) (marks-are gs (h .1))
   where
     go : (b : Bool) → Octets (putMarks gs) → Octets (pick b (g * 2 ∷ []) ((g * 2 + 1) ∷ putMarks gs))
-    go true o = one (g * 2) [] (omega (arith, h 0)) none
-    go false o = one (g * 2 + 1) (putMarks gs) (omega (arith, h 0)) o
+    go true o = one (g * 2) [] (omega (arith, h .0)) none
+    go false o = one (g * 2 + 1) (putMarks gs) (omega (arith, h .0)) o
 
 pub marks-short : (gs : List ℕ) → length (putMarks gs) ≤ length gs
 unfolding putMarks
@@ -78,9 +75,8 @@ marks-short (g ∷ gs) = go (zeros gs) (marks-short gs)
 
 pub sevens-are : (n m : ℕ) → Sevens (sevens n m)
 unfolding sevens
-sevens-are zero m i = omega arith
-sevens-are (suc n) m zero = omega arith
-sevens-are (suc n) m (suc i) = sevens-are n (m / 128) i
+sevens-are zero m = tt
+sevens-are (suc n) m = (omega arith, sevens-are n (m / 128))
 
 record-are : (c : Category) (r : Rec) → Sevens (r .marks) → Octets (putRec c r)
 unfolding putRec

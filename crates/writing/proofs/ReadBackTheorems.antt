@@ -3,7 +3,7 @@ use mathlib.Core.Path.{_≡_, refl, sym, ap, _∙_, subst}
 use mathlib.Core.Bool.{Bool, true, false, false≢true}
 use mathlib.Core.List.{List, [], _∷_, _++_}
 use Prim.Native.Nat.{ℕ, zero, suc, _+_, _-_, _*_, _/_, _%_, _^_, _<_}
-use native.Mathlib.Nat.{zero-mul, suc-mul, add-zero, mul-one, sub-zero, pow-suc, div-lt-iff-lt-mul, zero-lt-suc}
+use native.Mathlib.Nat.{add-zero, mul-one, sub-zero, pow-suc, div-lt-iff-lt-mul, zero-lt-suc}
 use native.Mathlib.Omega.{arith}
 use borrow.Author.Tests.{eqb-true, eqb-false, leb-false, le-leb}
 use lib.Dec.{leb, eqb}
@@ -41,7 +41,7 @@ use Rattle.blocks.specs.declared.cursor.Step.{Step}
 use Rattle.blocks.specs.declared.cursor.Found.{Found}
 use Rattle.blocks.proofs.WalkSteps.{by-known, table}
 use Rattle.blocks.proofs.BlockLaws.{category-number}
-use Rattle.blocks.proofs.TypedLaws.{field-form}
+use Rattle.blocks.proofs.TypedLaws.{field-form, groups-at}
 use Rattle.blocks.proofs.MeaningLaws.{means-read}
 use Rattle.blocks.proofs.BoundaryLaws.{read-filled, step-read}
 use Rattle.blocks.proofs.StepLaws.{entry-taken}
@@ -56,15 +56,6 @@ use Rattle.writing.proofs.WriteTheorems.{accepted, write-accepted, writ
 -- Groups that lie in octets
 
 module _ (s : List ℕ) where
-  -- group j of n from an offset
-  groups-at : (n : ℕ) (g : Group) (at j : ℕ) → j < n → getD (groupsAt n g s at) j [] ≡ entryValues s g at j
-  unfolding groupsAt
-  groups-at zero g at j l = absurd (omega arith)
-  groups-at (suc n) g at zero l = rw (zero-mul, add-zero)
-  groups-at (suc n) g at (suc j) l =
-      groups-at n g (at + g .wide) j (omega arith)
-      ∙ rw (suc-mul j (g .wide)) (ap (λ (i : ℕ). values (g .parts) (number (g .wide) s i)) (omega arith))
-
   -- an octet of content is its one value
   octet-at : Octets s → (at j : ℕ) → getD (entryValues s octet at j) 0 0 ≡ getD s (at + j) 0
   unfolding values number

@@ -27,7 +27,7 @@ use Rattle.writing.proofs.MarksWritten.{record-parts, present-by-type}
 use Rattle.writing.proofs.ItemsWritten.{none-of, items-bound}
 
 -- a size is that of no refusal, or the refusal
-refused-size : (n k m : ℕ) → Size.Refused m ≡ pick (eqb n 0) (Size.Octets k) (Size.Refused n) → (n ≡ m) × (m ≡ 0 → ⊥)
+pub refused-size : (n k m : ℕ) → Size.Refused m ≡ pick (eqb n 0) (Size.Octets k) (Size.Refused n) → (n ≡ m) × (m ≡ 0 → ⊥)
 refused-size n k m = go (eqb n 0) (eqb-false n 0)
   where
     go : (b : Bool) → (b ≡ false → n ≡ 0 → ⊥) → Size.Refused m ≡ pick b (Size.Octets k) (Size.Refused n) → (n ≡ m) × (m ≡ 0 → ⊥)

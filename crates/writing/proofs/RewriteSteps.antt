@@ -9,14 +9,10 @@ use lib.ListN.{length, length-append}
 use Rattle.octets.specs.Numbers.{Octets, number, octets, laid}
 use Rattle.octets.specs.Refusals.{outputTooShort}
 use Rattle.octets.proofs.Laying.{laid-none, laid-laid, length-laid}
-use Rattle.layouts.specs.Formats.{Answer, refused, got}
 use Rattle.layouts.specs.Categories.{known, category}
 use Rattle.items.specs.declared.item.Size.{Size}
-use Rattle.blocks.specs.Records.{Rec}
 use Rattle.blocks.specs.Blocks.{Block, wrong, all, blockOf, putRecs, putBlock}
-use Rattle.blocks.specs.Offsets.{recordAt}
-use Rattle.blocks.specs.Typed.{typedRec}
-use Rattle.blocks.specs.Steps.{itemsFrom, takenBy, takeBy, takeOf}
+use Rattle.blocks.specs.Steps.{takeOf}
 use Rattle.blocks.specs.Walks.{answerOf, readOf}
 use Rattle.blocks.specs.declared.record.Record.{Record}
 use Rattle.blocks.specs.declared.cursor.Cursor.{Cursor}
@@ -24,55 +20,15 @@ use Rattle.blocks.specs.declared.cursor.Step.{Step}
 use Rattle.blocks.specs.declared.walk.Reading.{Reading}
 use Rattle.blocks.proofs.ReadSteps.{record-within}
 use Rattle.blocks.proofs.ListedLaws.{read-block}
-use Rattle.blocks.proofs.StepLaws.{not-taken}
+use Rattle.blocks.proofs.BoundaryLaws.{not-accepted}
+use Rattle.blocks.proofs.StepLaws.{take-took, take-stopped}
 use Rattle.writing.specs.Judged.{recordRefusal, recordOctets, recordSize}
 use Rattle.writing.specs.Written.{no, block, within, rewriteFrom, rewriteOf, headerOctets, goodAt}
 use Rattle.writing.specs.declared.block.Written.{Written}
 use Rattle.writing.proofs.Reread.{read-judged, read-octets}
 use Rattle.writing.proofs.GoodLaws.{good-end, good-refused, good-step, good-short, Accepted}
-use Rattle.writing.proofs.BlockSteps.{block-long, block-laid, header-same, Says, says-short, says-block}
-
--- One step
-
-module _ (s : List ℕ) (len number at : ℕ) where
-  -- what a step that was taken says
-  record Took (t : Record) (next : ℕ) : Type 0 where
-    r : Rec
-    is : recordAt s len (category number) at ≡ got r next
-    same : t ≡ typedRec (category number) r (itemsFrom s len (category number) at)
-
-  -- a step, by what is read there
-  abbrev stepBy : Answer ℕ Rec → Step
-  stepBy = takenBy Step.Refused (λ t q. Step.Taken t (record { at = q })) (category number) at (itemsFrom s len (category number) at)
-
-  take-took : (t : Record) (c : Cursor) → takeOf s len number at ≡ Step.Taken t c → Took t (c .at)
-  unfolding takeOf takeBy
-  take-took t c = go (recordAt s len (category number) at) refl
-    where
-      go : (a : Answer ℕ Rec) → recordAt s len (category number) at ≡ a → stepBy a ≡ Step.Taken t c → Took t (c .at)
-      go (refused n) e h = absurd (not-taken h)
-      go (got r q) e h = record { r = r; is = e ∙ cc; same = cc }
-
-  take-stopped : (n p : ℕ) → takeOf s len number at ≡ Step.Refused n p → recordAt s len (category number) at ≡ refused n
-  unfolding takeOf takeBy
-  take-stopped n p = go (recordAt s len (category number) at) refl
-    where
-      go : (a : Answer ℕ Rec) → recordAt s len (category number) at ≡ a → stepBy a ≡ Step.Refused n p → recordAt s len (category number) at ≡ refused n
-      go (refused m) e h = e ∙ cc
-      go (got r q) e h = absurd (not-taken (sym h))
-
--- A record's size
-
-module _ (s : List ℕ) (t : Record) (fine : recordRefusal s t ≡ 0) where
-  size-fine : recordSize s t ≡ Size.Octets (length (recordOctets s t))
-  unfolding recordSize
-  size-fine = rw fine
-
-  size-is : (n : ℕ) → Size.Octets n ≡ recordSize s t → n ≡ length (recordOctets s t)
-  size-is n h = let e = h ∙ size-fine in cc
-
-  size-not : (n : ℕ) → Size.Refused n ≡ recordSize s t → ⊥
-  size-not n h = let e = h ∙ size-fine in let z : _≡_ {A = ℕ} 0 1 = cc in omega arith
+use Rattle.writing.proofs.RecordWritten.{refused-size, write-good}
+use Rattle.writing.proofs.BlockSteps.{block-long, body-room, body-same, body-laid, Says, says-short, says-block}
 
 -- The octets of the records from an offset on, in normal form
 module _ (s : List ℕ) (len number : ℕ) where
@@ -157,12 +113,13 @@ module _ (s : List ℕ) (len number : ℕ) where
     next-long = rw (next .is, length-append)
 
     pub counted-refused : (n : ℕ) → Size.Refused n ≡ recordSize s t → ⊥
-    counted-refused = size-not s t (next .fine)
+    unfolding recordSize
+    counted-refused n h = let (e, f) = refused-size (recordRefusal s t) _ n h in f (sym e ∙ next .fine)
 
     pub counted-more : (total n : ℕ) → Counted total at → Size.Octets n ≡ recordSize s t
         → (at < c .at) × (total + n ≤ length (rest 3)) × Counted (total + n) (c .at)
     counted-more total n w h =
-        let is = size-is s t (next .fine) n h in
+        let is = write-good s t n h .long in
         let a = w .all in
         let l = next-long in
         (next .forward, omega arith, record { within = next .within; all = omega arith })
@@ -188,16 +145,13 @@ module _ (s : List ℕ) (len number : ℕ) where
 
 -- The whole block
 
-not-refused : {n at len count : ℕ} → Reading.Accepted len count ≡ Reading.Refused n at → ⊥
-not-refused h = let z : _≡_ {A = ℕ} 0 1 = cc in omega arith
-
 pub rewrite-refused : (s : List ℕ) (n at : ℕ) → readOf s ≡ Reading.Refused n at → rewriteOf s ≡ no n
 unfolding rewriteOf
 rewrite-refused s n at h = go (blockOf s) (sym (read-block s) ∙ h)
   where
     go : (b : Block) → answerOf (number 2 s 1) b ≡ Reading.Refused n at → rewriteFrom b ≡ no n
     go (wrong m p) h = ap no (cc)
-    go (all cat rs) h = absurd (not-refused h)
+    go (all cat rs) h = absurd (not-accepted (sym h))
 
 -- of an accepted block, the octets that are counted and laid
 module _ (s : List ℕ) (cat len : ℕ) (o : Octets s) (w : Accepted s cat len) (n : ℕ) (is : n ≡ length (rest s len cat 3)) where
@@ -222,13 +176,12 @@ module _ (s : List ℕ) (cat len : ℕ) (o : Octets s) (w : Accepted s cat len) 
   -- the header, and then the records
   module _ (l l₁ : List ℕ) (h : n + 3 ≤ length l) (e : l₁ ≡ laid l 0 (headerOctets cat (n + 3))) where
     pub rewrite-room : 3 + length (rest s len cat 3) ≤ length l₁
-    rewrite-room = omega (arith, is, header-same l l₁ cat (n + 3) (omega arith) e)
+    rewrite-room = body-room cat (goodAt s len (category cat) len 3) n is l l₁ h e
 
     module _ (l₂ : List ℕ) (f : l₂ ≡ laid l₁ 3 (rest s len cat 3)) where
       pub rewrite-same : length l₂ ≡ length l
-      rewrite-same = rw f (length-laid l₁ 3 (rest s len cat 3) rewrite-room ∙ header-same l l₁ cat (n + 3) (omega arith) e)
+      rewrite-same = body-same cat (goodAt s len (category cat) len 3) n is l l₁ h e l₂ f
 
       pub rewrite-whole : Says l l₂ (Written.Octets (n + 3)) (within (length l) (rewriteOf s))
       rewrite-whole =
-          says-block l (rewriteOf s) whole (n + 3) rewrite-is whole-long h l₂
-          (f ∙ rw e (block-laid l cat (goodAt s len (category cat) len 3) n is h))
+          says-block l (rewriteOf s) whole (n + 3) rewrite-is whole-long h l₂ (body-laid cat (goodAt s len (category cat) len 3) n is l l₁ h e l₂ f)

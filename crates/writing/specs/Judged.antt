@@ -5,13 +5,13 @@ use Prim.Native.Nat.{ℕ, _+_, _*_}
 use lib.Dec.{eqb}
 use lib.ListN.{length, getD}
 use Rattle.octets.specs.Choice.{pick}
-use Rattle.octets.specs.Refusals.{unknownCategory, spareMarked, noneMarked, presenceBroken}
+use Rattle.octets.specs.Refusals.{unknownCategory, presenceBroken}
 use Rattle.layouts.specs.Categories.{known, category}
 use Rattle.layouts.specs.declared.form.Form.{Form}
 use Rattle.items.specs.Typed.{itemRefusal}
 use Rattle.items.specs.declared.item.Size.{Size}
 use Rattle.blocks.specs.Marks.{flagsOf}
-use Rattle.blocks.specs.Records.{formats, marksSpare, present, putItems, putRec}
+use Rattle.blocks.specs.Records.{formats, numberRefusal, present, putItems, putRec}
 use Rattle.blocks.specs.Meaning.{itemIn, sevens, valuesOf, recOf}
 use Rattle.blocks.specs.declared.record.Record.{Record}
 
@@ -55,7 +55,7 @@ module _ (s : List ℕ) (t : Record) where
 
   -- 6 for no mark, 5 for one of a spare field or of one past the category's last
   abbrev pub markedRefusal : ℕ
-  markedRefusal = pick (eqb (t .marks) 0) noneMarked (pick (marksSpare flags fields) spareMarked 0)
+  markedRefusal = numberRefusal (category (t .category)) (t .marks)
 
   -- 10: presence broken
   abbrev pub presenceRefusal : ℕ
