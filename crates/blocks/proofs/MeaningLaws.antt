@@ -1,5 +1,5 @@
 -- A typed record that was made of a record read means that record. Assumes nothing.
-use mathlib.Core.Path.{_≡_, refl, ap, _∙_, subst}
+use mathlib.Core.Path.{_≡_, refl, sym, ap, _∙_, subst}
 use mathlib.Core.Bool.{Bool, true, false, _&&_, false≢true}
 use mathlib.Core.List.{List, [], _∷_, _++_}
 use Prim.Native.Nat.{ℕ, zero, suc, _+_, _-_, _*_, _/_, _%_, _≤_, _<_}
@@ -13,7 +13,7 @@ use Rattle.octets.specs.Numbers.{Octets, number}
 use Rattle.layouts.specs.Groups.{values, Group}
 use Rattle.layouts.specs.Formats.{Answer, refused, got, andThen, Format, done, ask, Trace, fitsIn}
 use Rattle.layouts.specs.Offsets.{runAt, itemAt}
-use Rattle.layouts.specs.Layouts.{Layout, unused, fixed, extended, repeated, explicit, counted, format}
+use Rattle.layouts.specs.Layouts.{Layout, unused, fixed, extended, repeated, explicit, chain, counted, format}
 use Rattle.layouts.specs.Tables.{layout}
 use Rattle.layouts.specs.Categories.{Category, known, category}
 use Rattle.layouts.specs.declared.form.Form.{Form}
@@ -26,7 +26,7 @@ use Rattle.blocks.specs.Specification.{flags}
 use Rattle.blocks.specs.Marks.{marksOf, flagsOf}
 use Rattle.blocks.specs.Records.{Rec, formats, isUnused, layoutOf}
 use Rattle.blocks.specs.Offsets.{specsAt, itemsAt, recordAt}
-use Rattle.blocks.specs.Typed.{fieldFor, placeIn, typedRec}
+use Rattle.blocks.specs.Typed.{typed, fieldFor, placeIn, valuesFor, startFor, typedRec}
 use Rattle.blocks.specs.Steps.{itemsFrom}
 use Rattle.blocks.specs.Meaning.{itemIn, sevens, valuesOf, recOf}
 use Rattle.blocks.specs.declared.record.Record.{Record}
@@ -173,13 +173,60 @@ module _ (s : List ℕ) (len : ℕ) where
       let (tr', q', e', last) = through (runAt s len (k v) (at + g .wide)) e in
       (v, tr', cc)
 
-  -- so entries or content that were read have a place
-  place-read : (e : ℕ) (g : Group) (at q : ℕ) (tr : Trace) → runAt s len (counted e g) at ≡ got tr q
-      → placeIn at e tr ≡ record { at = at + 1; count = val tr 0 0 - e }
-  unfolding counted
-  place-read e g at q tr h =
-      let (v, tr', is) = run-some _ _ at q tr h in
-      rw is
+  -- so an item that was read has values
+  trace-some : (l : Layout) (at q : ℕ) (tr : Trace) → isUnused l ≡ false → runAt s len (format l) at ≡ got tr q → (v : List ℕ) × (tr' : Trace) × (tr ≡ v ∷ tr')
+  unfolding format chain counted
+  trace-some unused at q tr u h = absurd (false≢true (sym u))
+  trace-some (fixed g) at q tr u h = run-some _ _ at q tr h
+  trace-some (extended g []) at q tr u h = run-some _ _ at q tr h
+  trace-some (extended g (k ∷ hs)) at q tr u h = run-some _ _ at q tr h
+  trace-some (repeated g) at q tr u h = run-some _ _ at q tr h
+  trace-some explicit at q tr u h = run-some _ _ at q tr h
+
+-- made as a record read is: entries and content behind their count octet
+module _ (number marks : ℕ) (values : Form → Trace) (start : Form → ℕ) where
+  abbrev pub made : Record
+  made = typed number marks values (λ f e. placeIn (start f) e (values f))
+
+  place-of : (e : ℕ) (f : Form)
+      → placeIn (start f) e (values f) ≡ record { at = placeIn (start f) 0 (values f) .at; count = val (values f) 0 0 - e }
+  place-of e f = go (values f)
+    where
+      go : (tr : Trace) → placeIn (start f) e tr ≡ record { at = placeIn (start f) 0 tr .at; count = val tr 0 0 - e }
+      go [] = ap (λ (n : ℕ). record { at = 0; count = n }) (omega arith)
+      go (v ∷ tr) = refl
+
+  -- each form of items but the one of entries that the category does not have
+  pub made-item : (f : Form) → (f ≡ pick (eqb number 242) Form.Statistics Form.Versions → ⊥) → itemIn made f ≡ itemOf f (values f) (placeIn (start f) 0 (values f) .at)
+  made-item form.Spare own = refl
+  made-item form.Source own = refl
+  made-item form.MessageType own = refl
+  made-item form.Service own = refl
+  made-item form.Identification own = refl
+  made-item form.Time own = refl
+  made-item form.Batch own = refl
+  made-item form.Sdps own = refl
+  made-item form.Report own = refl
+  made-item form.Station own = refl
+  made-item form.Configuration own = refl
+  made-item form.Range own = refl
+  made-item form.Status own = refl
+  made-item form.Statistics own = go (eqb number 242) own
+    where
+      go : (b : Bool) → (Form.Statistics ≡ pick b Form.Statistics Form.Versions → ⊥)
+          → Item.Statistics (placeIn (start (pick b Form.Versions Form.Statistics)) 0 (values (pick b Form.Versions Form.Statistics)))
+          ≡ itemOf Form.Statistics (values Form.Statistics) (placeIn (start Form.Statistics) 0 (values Form.Statistics) .at)
+      go true own = absurd (own refl)
+      go false own = ap Item.Statistics (place-of 0 Form.Statistics ∙ rw sub-zero)
+  made-item form.Versions own = go (eqb number 242) own
+    where
+      go : (b : Bool) → (Form.Versions ≡ pick b Form.Statistics Form.Versions → ⊥)
+          → Item.Versions (placeIn (start (pick b Form.Versions Form.Statistics)) 0 (values (pick b Form.Versions Form.Statistics)))
+          ≡ itemOf Form.Versions (values Form.Versions) (placeIn (start Form.Versions) 0 (values Form.Versions) .at)
+      go true own = ap Item.Versions (place-of 0 Form.Versions ∙ rw sub-zero)
+      go false own = absurd (own refl)
+  made-item form.Expansion own = ap Item.Expansion (place-of 1 Form.Expansion)
+  made-item form.Purpose own = ap Item.Purpose (place-of 1 Form.Purpose)
 
 -- a form is spare, or field k + 1 is its field
 abbrev owned : List Form → Form → ℕ → Bool
@@ -226,32 +273,23 @@ module _ (s : List ℕ) (len : ℕ) (c : Category) (w : Forms c) (gs : List ℕ)
   abbrev start : ℕ → ℕ
   start i = startIn (layoutOf c gs) trs p i
 
+  -- a form that has a field is not the one of entries that the category does not have
+  not-other : (f : Form) (i : ℕ) → fieldFor (c .fields) f ≡ suc i → f ≡ pick (eqb (c .number) 242) Form.Statistics Form.Versions → ⊥
+  not-other f i e = go (eqb (c .number) 242) (w .statistics i) (w .versions i)
+    where
+      go : (b : Bool) → (fieldFor (c .fields) Form.Statistics ≡ suc i → b ≡ false) → (fieldFor (c .fields) Form.Versions ≡ suc i → b ≡ true)
+          → f ≡ pick b Form.Statistics Form.Versions → ⊥
+      go true g h x = false≢true (sym (g (rw x at e)))
+      go false g h x = false≢true (h (rw x at e))
+
   -- the typed record has of a form's item what its field's values give
-  item-typed : (f : Form) (i q : ℕ) → fieldFor (c .fields) f ≡ suc i
+  item-typed : (f : Form) (i q : ℕ) → fieldFor (c .fields) f ≡ suc i → isUnused (layout f) ≡ false
       → runAt s len (format (layout f)) (start i) ≡ got (getD trs i []) q
       → itemIn t f ≡ itemOf f (getD trs i []) (start i + 1)
-  unfolding typedRec format
-  item-typed form.Spare i q e h = refl
-  item-typed form.Source i q e h = rw e
-  item-typed form.MessageType i q e h = rw e
-  item-typed form.Service i q e h = rw e
-  item-typed form.Identification i q e h = rw e
-  item-typed form.Time i q e h = rw e
-  item-typed form.Batch i q e h = rw e
-  item-typed form.Sdps i q e h = rw e
-  item-typed form.Report i q e h = rw e
-  item-typed form.Station i q e h = rw e
-  item-typed form.Configuration i q e h = rw e
-  item-typed form.Range i q e h = rw e
-  item-typed form.Status i q e h = rw e
-  item-typed form.Statistics i q e h =
-      rw (w .statistics i e, e, one-less i)
-      (ap Item.Statistics (place-read s len 0 _ (start i) q (getD trs i []) h ∙ rw sub-zero))
-  item-typed form.Versions i q e h =
-      rw (w .versions i e, e, one-less i)
-      (ap Item.Versions (place-read s len 0 _ (start i) q (getD trs i []) h ∙ rw sub-zero))
-  item-typed form.Expansion i q e h = rw (e, one-less i) (ap Item.Expansion (place-read s len 1 _ (start i) q (getD trs i []) h))
-  item-typed form.Purpose i q e h = rw (e, one-less i) (ap Item.Purpose (place-read s len 1 _ (start i) q (getD trs i []) h))
+  unfolding typedRec
+  item-typed f i q e u h =
+      let (v, tr, is) = trace-some s len (layout f) (start i) q (getD trs i []) u h in
+      made-item (c .number) (marksOf (flags gs)) (valuesFor c r p) (startFor c r p) f (not-other f i e) ∙ rw (e, one-less i, is)
 
   -- so it is the item that was read at the field
   field-item : (f : Form) (i q : ℕ) → owned (c .fields) f i ≡ true
@@ -261,7 +299,7 @@ module _ (s : List ℕ) (len : ℕ) (c : Category) (w : Forms c) (gs : List ℕ)
       go : (b : Bool) → isUnused (layout f) ≡ b → pick b true (eqb (fieldFor (c .fields) f) (suc i)) ≡ true
           → itemIn t f ≡ itemOf f (getD trs i []) (start i + 1)
       go true e x = absurd (unused-unread s len (layout f) (start i) q (getD trs i []) e h)
-      go false e x = item-typed f i q (eqb-true (fieldFor (c .fields) f) (suc i) x) h
+      go false e x = item-typed f i q (eqb-true (fieldFor (c .fields) f) (suc i) x) e h
 
   -- and has its values
   field-means : (f : Form) (i q : ℕ) → owned (c .fields) f i ≡ true

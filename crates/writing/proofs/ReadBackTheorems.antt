@@ -3,7 +3,7 @@ use mathlib.Core.Path.{_≡_, refl, sym, ap, _∙_, subst}
 use mathlib.Core.Bool.{Bool, true, false, false≢true}
 use mathlib.Core.List.{List, [], _∷_, _++_}
 use Prim.Native.Nat.{ℕ, zero, suc, _+_, _-_, _*_, _/_, _%_, _^_, _<_}
-use native.Mathlib.Nat.{add-zero, mul-one, sub-zero, pow-suc, div-lt-iff-lt-mul, zero-lt-suc}
+use native.Mathlib.Nat.{add-zero, mul-one, pow-suc, div-lt-iff-lt-mul, zero-lt-suc}
 use native.Mathlib.Omega.{arith}
 use borrow.Author.Tests.{eqb-true, eqb-false, leb-false, le-leb}
 use lib.Dec.{leb, eqb}
@@ -19,8 +19,7 @@ use Rattle.layouts.specs.Tables.{counter, version}
 use Rattle.layouts.specs.Categories.{known, category}
 use Rattle.layouts.specs.declared.form.Form.{Form}
 use Rattle.layouts.specs.declared.form.Form.the-variants as form
-use Rattle.items.specs.Typed.{val, itemOf, settled, placed, givenTrace, traceOf}
-use Rattle.items.specs.declared.typed.Item.{Item}
+use Rattle.items.specs.Typed.{itemOf, settled, placed, givenTrace, traceOf}
 use Rattle.items.specs.declared.typed.Place.{Place}
 use Rattle.items.proofs.ReadBack.{typed-back}
 use Rattle.blocks.specs.Specification.{flags}
@@ -42,7 +41,7 @@ use Rattle.blocks.specs.declared.cursor.Found.{Found}
 use Rattle.blocks.proofs.WalkSteps.{by-known, table}
 use Rattle.blocks.proofs.BlockLaws.{category-number}
 use Rattle.blocks.proofs.TypedLaws.{field-form, groups-at}
-use Rattle.blocks.proofs.MeaningLaws.{means-read}
+use Rattle.blocks.proofs.MeaningLaws.{made-item, means-read}
 use Rattle.blocks.proofs.BoundaryLaws.{read-filled, step-read}
 use Rattle.blocks.proofs.StepLaws.{entry-taken}
 use Rattle.writing.specs.Written.{block, writeOf}
@@ -151,50 +150,6 @@ module _ (s : List ℕ) (t : Record) (x : List ℕ) (v : Record) (cat : v .categ
       ∙ there
 
 -- The items of a typed record, by their values
-
--- made as a record read is: entries and content behind their count octet
-module _ (number marks : ℕ) (values : Form → Trace) (start : Form → ℕ) where
-  abbrev made : Record
-  made = typed number marks values (λ f e. placeIn (start f) e (values f))
-
-  place-of : (e : ℕ) (f : Form)
-      → placeIn (start f) e (values f) ≡ record { at = placeIn (start f) 0 (values f) .at; count = val (values f) 0 0 - e }
-  place-of e f = go (values f)
-    where
-      go : (tr : Trace) → placeIn (start f) e tr ≡ record { at = placeIn (start f) 0 tr .at; count = val tr 0 0 - e }
-      go [] = ap (λ (n : ℕ). record { at = 0; count = n }) (omega arith)
-      go (v ∷ tr) = refl
-
-  made-item : (f : Form) → (f ≡ otherForm number → ⊥) → itemIn made f ≡ itemOf f (values f) (placeIn (start f) 0 (values f) .at)
-  made-item form.Spare own = refl
-  made-item form.Source own = refl
-  made-item form.MessageType own = refl
-  made-item form.Service own = refl
-  made-item form.Identification own = refl
-  made-item form.Time own = refl
-  made-item form.Batch own = refl
-  made-item form.Sdps own = refl
-  made-item form.Report own = refl
-  made-item form.Station own = refl
-  made-item form.Configuration own = refl
-  made-item form.Range own = refl
-  made-item form.Status own = refl
-  made-item form.Statistics own = go (eqb number 242) own
-    where
-      go : (b : Bool) → (Form.Statistics ≡ pick b Form.Statistics Form.Versions → ⊥)
-          → Item.Statistics (placeIn (start (pick b Form.Versions Form.Statistics)) 0 (values (pick b Form.Versions Form.Statistics)))
-          ≡ itemOf Form.Statistics (values Form.Statistics) (placeIn (start Form.Statistics) 0 (values Form.Statistics) .at)
-      go true own = absurd (own refl)
-      go false own = ap Item.Statistics (place-of 0 Form.Statistics ∙ rw sub-zero)
-  made-item form.Versions own = go (eqb number 242) own
-    where
-      go : (b : Bool) → (Form.Versions ≡ pick b Form.Statistics Form.Versions → ⊥)
-          → Item.Versions (placeIn (start (pick b Form.Versions Form.Statistics)) 0 (values (pick b Form.Versions Form.Statistics)))
-          ≡ itemOf Form.Versions (values Form.Versions) (placeIn (start Form.Versions) 0 (values Form.Versions) .at)
-      go true own = ap Item.Versions (place-of 0 Form.Versions ∙ rw sub-zero)
-      go false own = absurd (own refl)
-  made-item form.Expansion own = ap Item.Expansion (place-of 1 Form.Expansion)
-  made-item form.Purpose own = ap Item.Purpose (place-of 1 Form.Purpose)
 
 -- the item of no values
 no-item : (f : Form) → itemOf f [] 0 ≡ itemIn absent f
