@@ -1,25 +1,25 @@
 -- Where the items of a record start: each behind those before it, as many octets on as these have. Assumes nothing.
 use mathlib.Core.Path.{_≡_, refl, sym}
 use mathlib.Core.List.{List, [], _∷_}
+use mathlib.Core.Bool.{Bool, true, false}
 use Prim.Native.Nat.{ℕ, zero, suc, _+_, _-_, _<_}
 use native.Mathlib.Nat.{add-zero, add-assoc}
 use native.Mathlib.Omega.{arith}
 use lib.Dec.{ltb}
 use lib.ListN.{length, getD, take, length-append}
 use Rattle.octets.specs.Numbers.{number}
+use Rattle.octets.specs.Choice.{pick}
 use Rattle.octets.proofs.Numbers.{length-octets}
 use Rattle.layouts.specs.Groups.{values}
 use Rattle.layouts.specs.Formats.{got, Format, done, stop, ask, Trace, fitsIn, put}
 use Rattle.layouts.specs.Offsets.{runAt, itemAt}
+use Rattle.layouts.specs.Layouts.{format}
+use Rattle.layouts.specs.Tables.{layout}
+use Rattle.layouts.specs.declared.form.Form.{Form}
 use Rattle.layouts.proofs.Answers.{got-refused, pick-no, through}
 use Rattle.blocks.specs.Records.{formats, putItems}
 use Rattle.blocks.specs.Offsets.{itemsAt}
 use Rattle.blocks.proofs.WalkSteps.{item-run}
-use mathlib.Core.Bool.{Bool, true, false}
-use Rattle.octets.specs.Choice.{pick}
-use Rattle.layouts.specs.Layouts.{format}
-use Rattle.layouts.specs.Tables.{layout}
-use Rattle.layouts.specs.declared.form.Form.{Form}
 
 -- a marked field's format is that of its form, a field's that is not marked has no octets
 pub formats-at : (bs : List Bool) (fs : List Form) (n : ℕ) → (getD bs n false ≡ true → n < length fs)

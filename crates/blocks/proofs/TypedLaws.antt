@@ -26,6 +26,7 @@ use Rattle.layouts.proofs.Windows.{run-trace, run-within}
 use Rattle.items.specs.Typed.{val, placeAt}
 use Rattle.items.specs.declared.typed.Place.{Place}
 use Rattle.items.proofs.Judged.{counted-read}
+use Rattle.items.proofs.Items.{times-trace}
 use Rattle.blocks.specs.Specification.{flags}
 use Rattle.blocks.specs.Marks.{marksOf}
 use Rattle.blocks.specs.Records.{Rec, layoutOf, putItems}
@@ -37,7 +38,6 @@ use Rattle.blocks.proofs.AtEnd.{end-value, end-place}
 use Rattle.blocks.proofs.MarksLaws.{flags-32, flags-long, mark-more, specs-marked}
 use Rattle.blocks.proofs.WalkSteps.{item-run, table}
 use Rattle.blocks.proofs.ItemStarts.{startIn, formats-at, items-there}
-use Rattle.items.proofs.Items.{times-trace}
 use Rattle.blocks.proofs.ReadSteps.{record-parts}
 
 -- The field of a form has that form

@@ -29,7 +29,7 @@ use Rattle.blocks.specs.declared.cursor.Found.{Found}
 use Rattle.blocks.proofs.RecordTheorems.{spare-bits}
 use Rattle.blocks.proofs.BlockLaws.{headed}
 use Rattle.blocks.proofs.JoinLaws.{second-block}
-use Rattle.blocks.proofs.BoundaryLaws.{visited}
+use Rattle.blocks.proofs.BoundaryLaws.{visited, step-end}
 use Rattle.blocks.proofs.SameAnswers.{read-alike, block-alike, step-alike, entry-alike, read-after-len, block-after-len, step-after-len, entry-after-len}
 use Rattle.writing.specs.Written.{block, writeOf, rewriteOf}
 use Rattle.writing.specs.Same.{entriesForm, has, Same}
@@ -44,6 +44,10 @@ use Rattle.demands.proofs.Written.{Laid, written-laid}
 pub visits : (s : List ℕ) (len n : ℕ) → Octets s → Reads s (Reading.Accepted len n)
     → (cat : ℕ) × (ts : List Record) × Visited s 3 ts len × (length ts ≡ n) × (blockOf s ≡ all cat (map (recOf s) ts))
 visits s len n o h = visited s len n o (sym (h .0))
+
+-- and from LEN on no step takes a record.
+pub visits-end : (s : List ℕ) (cat len : ℕ) → headerOf s ≡ Head.Good cat len → (at : ℕ) → len ≤ at → (r : Step) → Steps s at r → r ≡ Step.Refused noSuch 0
+visits-end s cat len h at l r k = k .0 ∙ step-end s cat len h at l
 
 -- Reading back what was written: a record t, whose entries and content lie in the source s, went into the output, n octets of it
 module _ (s : List ℕ) (o : Octets s) (t : Record) (small : t .marks < 4294967296) (l : List ℕ) (o' : Octets l) (out : List ℕ) (n : ℕ)

@@ -2,7 +2,7 @@
 use mathlib.Core.Path.{_≡_}
 use mathlib.Core.List.{List}
 use Prim.Native.Nat.{ℕ}
-use Rattle.octets.proofs.Unique.{only}
+use Rattle.octets.proofs.Unique.{only, only-both}
 use Rattle.blocks.specs.declared.record.Record.{Record}
 use Rattle.blocks.specs.declared.walk.Reading.{Reading}
 use Rattle.blocks.specs.declared.cursor.Step.{Step}
@@ -21,7 +21,7 @@ one-entry s start n r q h k = only (h .0) (k .0)
 
 pub one-writing : (s : List ℕ) (t : Record) (l out out' : List ℕ) (r q : Written) → Writes s t l out r → Writes s t l out' q
     → (out ≡ out') × (r ≡ q)
-one-writing s t l out out' r q h k = (only (h .0) (k .0), only (h .1) (k .1))
+one-writing s t l out out' r q h k = only-both (h .0, h .1) (k .0, k .1)
 
 pub one-rewriting : (s l out out' : List ℕ) (r q : Written) → Rewrites s l out r → Rewrites s l out' q → (out ≡ out') × (r ≡ q)
-one-rewriting s l out out' r q h k = (only (h .0) (k .0), only (h .1) (k .1))
+one-rewriting s l out out' r q h k = only-both (h .0, h .1) (k .0, k .1)

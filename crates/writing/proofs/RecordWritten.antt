@@ -20,9 +20,9 @@ use Rattle.blocks.specs.Records.{present, putRec}
 use Rattle.blocks.specs.Blocks.{putRecs, putBlock}
 use Rattle.blocks.specs.Meaning.{sevens, recOf}
 use Rattle.blocks.specs.declared.record.Record.{Record}
+use Rattle.blocks.proofs.WalkSteps.{table}
 use Rattle.writing.specs.Judged.{orElse, typeIn, itemsRefusal, itemsSize, flags, fields, itemsOctets, markedRefusal, presenceRefusal, recordRefusal, recordOctets, recordSize}
 use Rattle.writing.specs.Written.{no, block, writeOf}
-use Rattle.blocks.proofs.WalkSteps.{table}
 use Rattle.writing.proofs.MarksWritten.{record-parts, present-by-type}
 use Rattle.writing.proofs.ItemsWritten.{none-of, items-bound}
 
