@@ -4,7 +4,7 @@ import os
 import sys
 
 HERE = os.path.dirname(os.path.abspath(__file__))
-CASES = {'read': 400, 'step': 400, 'entry': 400, 'rewrite': 400, 'write': 400}
+CASES = {'read': 400, 'step': 400, 'entry': 400, 'rewrite': 400, 'write': 400, 'post': 120, 'load': 120, 'store': 120}
 
 # The cells of a record as the program writes them: an item, and its value's name in the stored cases.
 CELLS = [
@@ -74,6 +74,27 @@ def numbers(values):
     return ' '.join(str(n) for n in values)
 
 
+def places_of(ledger):
+    """The places that are given, as key, life count and reading; the others are all zero."""
+    return [(((sac * 256 + sic) * 256 + octet) * 256 + typ, life, reading) for sac, sic, octet, typ, life, reading, _ in ledger['places']]
+
+
+def ledger_octets(ledger):
+    """The row count, and 256 places."""
+    places = places_of(ledger)
+    must(len(places) <= 256, 'a ledger has 256 places')
+    words = ['%016X' % ledger['count']] + ['%08X%016X%08X' % place for place in places]
+    if len(places) < 256:
+        words.append('%d*00' % (16 * (256 - len(places))))
+    return ' '.join(words)
+
+
+def ledger_numbers(number, ledger):
+    """Number, row count, and each place that is not all zero, with its number from 0."""
+    places = [value for i, place in enumerate(places_of(ledger)) if any(place) for value in (i,) + place]
+    return numbers([number, ledger['count']] + places)
+
+
 def written(case):
     """Number, length, 1 as the octets behind the length have to stay, and the octets."""
     out = case['out'].upper()
@@ -81,6 +102,12 @@ def written(case):
 
 
 def line_and_answer(case):
+    if case['op'] == 'post':
+        return 'post %d %s %s' % (case['k'], ledger_octets(case['ledger']), case['in']), ledger_numbers(case['number'], case['after'])
+    if case['op'] == 'load':
+        return 'load ' + case['page'], ledger_numbers(case['number'], case['ledger'])
+    if case['op'] == 'store':
+        return 'store %d %s' % (ENOUGH if case['room'] is None else case['room'], ledger_octets(case['ledger'])), written(case)
     if case['op'] in ('rewrite', 'write'):
         room = ENOUGH if case['room'] is None else case['room']
         if case['op'] == 'rewrite':

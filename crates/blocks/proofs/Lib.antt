@@ -21,3 +21,4 @@ pub mod BoundaryLaws
 pub mod SameAnswers
 pub mod AtEnd
 pub mod RecordStarts
+pub mod TakenLaws

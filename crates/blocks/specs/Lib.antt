@@ -12,3 +12,4 @@ pub mod Steps
 pub mod Meaning
 pub mod Boundaries
 pub mod Faults
+pub mod Statistics

@@ -4,4 +4,5 @@ pub mod header;
 pub mod marks;
 pub mod presence;
 pub mod record;
+pub mod statistics;
 pub mod walk;

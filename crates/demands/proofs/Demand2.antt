@@ -31,14 +31,15 @@ use Rattle.blocks.proofs.BlockLaws.{headed}
 use Rattle.blocks.proofs.JoinLaws.{second-block}
 use Rattle.blocks.proofs.BoundaryLaws.{visited, step-end}
 use Rattle.blocks.proofs.SameAnswers.{read-alike, block-alike, step-alike, entry-alike, read-after-len, block-after-len, step-after-len, entry-after-len}
-use Rattle.writing.specs.Written.{block, writeOf, rewriteOf}
+use Rattle.octets.specs.Outcomes.{puts}
+use Rattle.writing.specs.Written.{writeOf, rewriteOf}
 use Rattle.writing.specs.Same.{entriesForm, has, Same}
-use Rattle.writing.specs.declared.block.Written.{Written}
+use Rattle.octets.specs.declared.output.Written.{Written}
 use Rattle.writing.proofs.RewriteTheorems.{rewrite-accepted, rewrite-reading, rewrite-again, rewrite-short, rewrite-same, rewrite-typed}
 use Rattle.writing.proofs.WriteTheorems.{write-normal, write-reading}
 use Rattle.writing.proofs.ReadBackTheorems.{write-back, entry-back, entry-none}
 use Rattle.demands.specs.Contracts.{Reads, Steps, Entries, Writes, Rewrites}
-use Rattle.demands.proofs.Written.{Laid, written-laid}
+use Rattle.octets.proofs.Outcomes.{Laid, written-laid}
 
 -- Steps from 3 visit exactly the records that reading counts, and these mean the records of the block.
 pub visits : (s : List ℕ) (len n : ℕ) → Octets s → Reads s (Reading.Accepted len n)
@@ -81,10 +82,10 @@ module _ (s : List ℕ) (o : Octets s) (t : Record) (small : t .marks < 42949672
   no-entries m k r e = e .0 ∙ ap (λ (y : List ℕ). entryOf y 3 k) (w .same) ∙ (entry-none s o t small (w .xs) (w .is) (drop n l) rest k m)
 
   -- It is its own rewriting.
-  pub own-rewriting : rewriteOf out ≡ block (take n out)
+  pub own-rewriting : rewriteOf out ≡ puts (take n out)
   own-rewriting =
       ap rewriteOf (w .same) ∙ write-normal s t small (w .xs) (w .is) (drop n l)
-      ∙ ap block (sym (ap (take n) (w .same) ∙ take-at (w .xs) (drop n l) n (sym (w .long))))
+      ∙ ap puts (sym (ap (take n) (w .same) ∙ take-at (w .xs) (drop n l) n (sym (w .long))))
 
 -- The normal form: a block s was rewritten into the output, n octets of it
 module _ (s : List ℕ) (o : Octets s) (l out : List ℕ) (n : ℕ) (h : Rewrites s l out (Written.Octets n)) where
@@ -101,10 +102,10 @@ module _ (s : List ℕ) (o : Octets s) (l out : List ℕ) (n : ℕ) (h : Rewrite
       ∙ ap (λ (m : ℕ). Reading.Accepted m k) (sym (x .long))
 
   -- Rewriting it again changes nothing.
-  pub again : rewriteOf out ≡ block (take n out)
+  pub again : rewriteOf out ≡ puts (take n out)
   again =
       ap rewriteOf (x .same) ∙ rewrite-again s (x .xs) o (x .is) (drop n l)
-      ∙ ap block (sym (ap (take n) (x .same) ∙ take-at (x .xs) (drop n l) n (sym (x .long))))
+      ∙ ap puts (sym (ap (take n) (x .same) ∙ take-at (x .xs) (drop n l) n (sym (x .long))))
 
   -- It is at most as long as the block that was read.
   pub not-longer : n ≤ number 2 s 1

@@ -7,19 +7,24 @@ use Rattle.layouts.specs.Formats.{run, fitsIn, item, put}
 use Rattle.layouts.specs.Offsets.{runAt, itemAt}
 use Rattle.layouts.specs.Layouts.{times, chain, counted, format}
 use Rattle.blocks.specs.Specification.{specs, zeros, putMarks, flags}
-use Rattle.blocks.specs.Marks.{marksOf}
+use Rattle.blocks.specs.Marks.{marksOf, flagsOf}
 use Rattle.blocks.specs.Presence.{meets}
 use Rattle.blocks.specs.Headers.{headerOf}
 use Rattle.blocks.specs.Records.{formats, marksSpare, layoutOf, marksRefusal, present, items, putItems, recordOf, putRec}
 use Rattle.blocks.specs.Blocks.{records, blockOf, putRecs, putBlock}
-use Rattle.blocks.specs.Offsets.{specsAt, itemsAt, recordAt}
-use Rattle.blocks.specs.Walks.{readListed}
+use Rattle.blocks.specs.Offsets.{specsAt, itemsAt, recordAt, recordsAt}
+use Rattle.blocks.specs.Walks.{readOf, runOf, restOf, readListed}
 use Rattle.blocks.specs.Typed.{typedRec}
-use Rattle.blocks.specs.Steps.{takeBy, stepBy, entryBy, stepListed, entryListed}
+use Rattle.blocks.specs.Steps.{takeBy, stepBy, entryBy, stepOf, stepListed, entryListed}
+use Rattle.rows.specs.Rows.{addUp, rowOf}
+use Rattle.rows.specs.Posting.{names, newKeys, addEntry, addAll, passes, postRows}
+use Rattle.ledger.specs.Ledgers.{ledgerOf, rowsFrom, allBelow, keepsRules}
+use Rattle.ledger.specs.Reports.{entriesFrom, reportIn, stepAt, reportOf}
+use Rattle.ledger.specs.Posts.{postOf}
 use Rattle.writing.specs.Written.{rewriteOf}
 use Rattle.demands.specs.Examples.{Example, answers, examples}
 
 -- Each example is answered as document 01 says.
 pub worked : map (λ (e : Example). answers (e .octets)) examples ≡ map (λ (e : Example). e .answers) examples
-unfolding values merge fits number octets run fitsIn item put times chain counted format runAt itemAt specs zeros putMarks flags marksOf meets headerOf formats marksSpare layoutOf marksRefusal present items putItems recordOf putRec records blockOf putRecs putBlock specsAt itemsAt recordAt readListed takeBy stepBy entryBy stepListed entryListed typedRec rewriteOf
+unfolding values merge fits number octets run fitsIn item put times chain counted format runAt itemAt specs zeros putMarks flags marksOf flagsOf meets headerOf formats marksSpare layoutOf marksRefusal present items putItems recordOf putRec records blockOf putRecs putBlock specsAt itemsAt recordAt recordsAt readOf runOf restOf readListed takeBy stepBy entryBy stepOf stepListed entryListed typedRec rewriteOf addUp rowOf names newKeys addEntry addAll passes postRows ledgerOf rowsFrom allBelow keepsRules entriesFrom reportIn stepAt reportOf postOf
 worked = refl

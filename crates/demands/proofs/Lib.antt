@@ -1,5 +1,6 @@
 pub mod Examples
-pub mod Written
+pub mod Verdicts
 pub mod Demand1
 pub mod Demand2
+pub mod Demand3
 pub mod Unique

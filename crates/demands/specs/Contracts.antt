@@ -9,8 +9,13 @@ use Rattle.blocks.specs.declared.record.Record.{Record}
 use Rattle.blocks.specs.declared.walk.Reading.{Reading}
 use Rattle.blocks.specs.declared.cursor.Step.{Step}
 use Rattle.blocks.specs.declared.cursor.Found.{Found}
-use Rattle.writing.specs.Written.{Outcome, within, writeOf, rewriteOf, answerOf, outputOf, listedWritten, outcomeListed}
-use Rattle.writing.specs.declared.block.Written.{Written}
+use Rattle.octets.specs.Outcomes.{Outcome, within, answerOf, outputOf, listedWritten, outcomeListed}
+use Rattle.ledger.specs.Pages.{loadOf, storeOf}
+use Rattle.ledger.specs.Posts.{postOf}
+use Rattle.ledger.specs.declared.Answer.{Answer}
+use Rattle.ledger.specs.declared.Ledger.{Ledger}
+use Rattle.writing.specs.Written.{writeOf, rewriteOf}
+use Rattle.octets.specs.declared.output.Written.{Written}
 
 -- blocks::walk::read: the octets, the answer
 abbrev pub Reads : List ℕ → Reading → Type 0
@@ -36,3 +41,15 @@ Writes s t l out r = Puts (writeOf s t) l out r
 -- writing::block::rewrite: the octets, the output before and after, the answer
 abbrev pub Rewrites : List ℕ → List ℕ → List ℕ → Written → Type 0
 Rewrites s l out r = Puts (rewriteOf s) l out r
+
+-- ledger::post::post: the ledger, the octets, the record number, the answer with the ledger
+abbrev pub Posts : Ledger → List ℕ → ℕ → Answer → Type 0
+Posts l s k r = r ≡ postOf l s k
+
+-- ledger::page::load: the page, the answer with the ledger
+abbrev pub Loads : List ℕ → Answer → Type 0
+Loads s r = r ≡ loadOf s
+
+-- ledger::page::store: the ledger, the output before and after, the answer
+abbrev pub Stores : Ledger → List ℕ → List ℕ → Written → Type 0
+Stores l o out r = Puts (storeOf l) o out r

@@ -5,25 +5,53 @@ use Rattle.blocks.specs.Walks.{ReadListed, readRefused, readAccepted, readListe
 use Rattle.blocks.specs.Typed.{nowhere}
 use Rattle.blocks.specs.Steps.{StepListed, stepRefused, stepTaken, stepListed, EntryListed, entryRefused, entryFound, entryListed}
 use Rattle.blocks.specs.declared.record.Record.{Record}
-use Rattle.writing.specs.Written.{Outcome, no, block, rewriteOf}
+use Rattle.rows.specs.Rows.{Row}
+use Rattle.ledger.specs.Ledgers.{answer, ledgerOf}
+use Rattle.ledger.specs.Posts.{postOf}
+use Rattle.ledger.specs.declared.Answer.{Answer}
+use Rattle.octets.specs.Outcomes.{Outcome, no, puts}
+use Rattle.writing.specs.Written.{rewriteOf}
 
--- what is answered to octets: by reading, by a step from 3, for that record's first entry, and by rewriting
+-- what is answered to octets: by reading, by a step from 3, for that record's first entry, by rewriting, and by posting it to a fresh ledger
 pub record Answers : Type 0 where
   pub reading : ReadListed
   pub step : StepListed
   pub entry : EntryListed
   pub rewriting : Outcome
+  pub posting : Answer
 
 abbrev pub answers : List ℕ → Answers
-answers s = record { reading = readListed s; step = stepListed s 3; entry = entryListed s 3 0; rewriting = rewriteOf s }
+answers s = record {
+  reading = readListed s;
+  step = stepListed s 3;
+  entry = entryListed s 3 0;
+  rewriting = rewriteOf s;
+  posting = postOf (ledgerOf []) s 0;
+}
 
 -- a record that is refused, in a block of one
 abbrev pub refused : ℕ → Answers
-refused n = record { reading = readRefused n 3; step = stepRefused n 3; entry = entryRefused n 3; rewriting = no n }
+refused n = record {
+  reading = readRefused n 3;
+  step = stepRefused n 3;
+  entry = entryRefused n 3;
+  rewriting = no n;
+  posting = answer n (ledgerOf []);
+}
 
--- a block of one record
+-- a block of one record, with the number and the rows that posting it gives
+abbrev pub posted : ℕ → List Row → ℕ → Record → EntryListed → List ℕ → Answers
+posted n rows len t e xs = record {
+  reading = readAccepted len 1;
+  step = stepTaken t len;
+  entry = e;
+  rewriting = puts xs;
+  posting = answer n (ledgerOf rows);
+}
+
+-- one that is no statistics report
 abbrev pub accepted : ℕ → Record → EntryListed → List ℕ → Answers
-accepted len t e xs = record { reading = readAccepted len 1; step = stepTaken t len; entry = e; rewriting = block xs }
+accepted = posted 13 []
 
 -- no entry of this number
 abbrev pub noEntry : EntryListed
@@ -141,6 +169,10 @@ examples =
     -- P7: 8; with E1 for E0: 4
     ∷ record { octets = 0xF2 ∷ 0x00 ∷ 0x0A ∷ 0xE0 ∷ 0x01 ∷ 0x02 ∷ 0x00 ∷ 0x00 ∷ 0x00 ∷ 0x00 ∷ []; answers = refused 8 }
     ∷ record { octets = 0xF2 ∷ 0x00 ∷ 0x0A ∷ 0xE1 ∷ 0x01 ∷ 0x02 ∷ 0x00 ∷ 0x00 ∷ 0x00 ∷ 0x00 ∷ []; answers = refused 4 }
-    -- P8: 0, one entry, TYPE 4 from midnight, count 100
-    ∷ record { octets = p8Octets; answers = accepted 19 statisticsRecord (entryFound (4 ∷ 0 ∷ 100 ∷ [])) p8Octets }
+    -- P8: 0, one entry, TYPE 4 from midnight, count 100; posted fresh: row 01021204, 100, 100
+    ∷ record {
+      octets = p8Octets;
+      answers =
+          posted 0 (record { key = 0x01021204; life = 100; reading = 100 } ∷ []) 19 statisticsRecord (entryFound (4 ∷ 0 ∷ 100 ∷ [])) p8Octets;
+    }
     ∷ []

@@ -1,2 +1,4 @@
 pub mod Examples
 pub mod Contracts
+pub mod Runs
+pub mod Verdicts

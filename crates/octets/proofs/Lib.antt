@@ -1,4 +1,5 @@
 pub mod Numbers
 pub mod Laying
 pub mod Unique
+pub mod Outcomes
 pub mod Examples

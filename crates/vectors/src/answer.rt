@@ -1,22 +1,26 @@
-// The answers of the block layer, as lines of numbers.
+// The answers of the layers, as lines of numbers.
 use crate::case::Case;
 use crate::case::ENTRY;
+use crate::case::LOAD;
 use crate::case::Line;
+use crate::case::POST;
 use crate::case::READ;
 use crate::case::STEP;
 use crate::case::State;
 use crate::case::is_numbered;
 use crate::case::next;
+use crate::case::unknown;
 use crate::cells::say_record;
-use crate::text::emit;
-use crate::text::more;
-use crate::text::number;
-use crate::text::unknown;
+use crate::ledgers::say_loading;
+use crate::ledgers::say_posting;
 use crate::written::say_output;
 use blocks::cursor::Cursor;
 use blocks::cursor::Found;
 use blocks::cursor::Step;
 use blocks::walk::Reading;
+use text::emit;
+use text::more;
+use text::number;
 
 // Number, offset, LEN and count.
 fn say_reading(text: &mut [u8], held: usize, answer: Reading) -> usize {
@@ -86,6 +90,8 @@ fn say_answer(s: &[u8], text: &mut [u8], held: usize, case: Case) -> usize {
             let k = case.cells[0] as usize;
             say_entry(text, held, blocks::cursor::entry(s, case.first, k))
         }
+        POST => say_posting(s, text, held, case.first),
+        LOAD => say_loading(s, text, held),
         _ => say_output(s, text, held, case),
     }
 }

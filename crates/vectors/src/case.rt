@@ -1,9 +1,9 @@
 // A line of input, read octet by octet as it comes, so that no line is stored.
-use crate::digits::Number;
-use crate::digits::hex_value;
-use crate::digits::with_digit;
 use crate::store::put;
 use crate::store::repeat;
+use text::digits::Number;
+use text::digits::hex_value;
+use text::digits::with_digit;
 
 // The letters of an operation, as one number.
 pub const READ: u64 = 0x7265_6164;
@@ -15,6 +15,12 @@ pub const ENTRY: u64 = 0x65_6E74_7279;
 pub const REWRITE: u64 = 0x72_6577_7269_7465;
 
 pub const WRITE: u64 = 0x77_7269_7465;
+
+pub const POST: u64 = 0x706F_7374;
+
+pub const LOAD: u64 = 0x6C6F_6164;
+
+pub const STORE: u64 = 0x73_746F_7265;
 
 // No digit waits for the other half of its octet.
 const NO_HALF: u8 = 16;
@@ -84,6 +90,9 @@ fn numbers_of(operation: u64) -> usize {
         ENTRY => 2,
         REWRITE => 1,
         WRITE => 37,
+        POST => 1,
+        LOAD => 0,
+        STORE => 1,
         _ => 38,
     }
 }
@@ -281,4 +290,9 @@ pub(crate) fn is_comment(line: Line) -> bool {
     } else {
         false
     }
+}
+
+// What is no case: a question mark and a blank.
+pub(crate) fn unknown(text: &mut [u8], held: usize) -> usize {
+    text::emit_all(text, held, b"? ")
 }

@@ -1,5 +1,4 @@
 // A record as 36 numbers, its cells: written, and a record made of them.
-use crate::text::more;
 use blocks::record::Record;
 use items::typed::Configuration;
 use items::typed::HalfSeconds;
@@ -10,6 +9,7 @@ use items::typed::Service;
 use items::typed::Source;
 use items::typed::Station;
 use items::typed::TimeOfDay;
+use text::more;
 
 // Category, marks, 010, 000, 65/015, 23/015, time, and 65/020.
 fn first_cells(record: Record) -> [u64; 10] {

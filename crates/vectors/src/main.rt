@@ -1,11 +1,10 @@
-// Runs the cases of standard input through the block layer and the writing over it, a line for each to standard output: `read OCTETS`,
-// `step START OCTETS`, `entry START K OCTETS`, `rewrite ROOM OCTETS`, `write ROOM CELLS OCTETS`.
+// Runs the cases of standard input through the layers, a line for each to standard output: `read OCTETS`, `step START OCTETS`,
+// `entry START K OCTETS`, `rewrite ROOM OCTETS`, `write ROOM CELLS OCTETS`, `post K LEDGER OCTETS`, `load OCTETS`, `store ROOM LEDGER`.
 mod answer;
 mod case;
 mod cells;
-mod digits;
+mod ledgers;
 mod store;
-mod text;
 mod written;
 
 use crate::case::Line;

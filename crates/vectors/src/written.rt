@@ -1,14 +1,17 @@
 // What is written to a lent output: its answer, whether the octets behind it stayed, and the octets.
 use crate::case::Case;
 use crate::case::REWRITE;
+use crate::case::STORE;
+use crate::case::unknown;
 use crate::cells::fit;
 use crate::cells::record_of;
-use crate::text::emit;
-use crate::text::hex;
-use crate::text::more;
-use crate::text::number;
-use crate::text::unknown;
-use writing::block::Written;
+use crate::ledgers::ledger_of;
+use ledger::page::store;
+use octets::output::Written;
+use text::emit;
+use text::hex;
+use text::more;
+use text::number;
 use writing::block::rewrite;
 use writing::block::write;
 
@@ -59,6 +62,9 @@ fn written(s: &[u8], out: &mut [u8], case: Case) -> Written {
     let cells = case.cells;
     if case.operation == REWRITE {
         return rewrite(s, out);
+    }
+    if case.operation == STORE {
+        return store(ledger_of(s), out);
     }
     write(record_of(cells), s, out)
 }

@@ -1,19 +1,16 @@
--- CAT and LEN in front of the records, and the answer that goes with an outcome. Assumes nothing.
-use mathlib.Core.Path.{_≡_, refl, ap, _∙_}
+-- CAT and LEN in front of the records. Assumes nothing.
+use mathlib.Core.Path.{_≡_, ap, _∙_}
 use mathlib.Core.List.{List, [], _∷_}
 use Prim.Native.Nat.{ℕ, suc, _+_, _≤_, _<_}
 use native.Mathlib.Omega.{arith}
-use borrow.Author.Tests.{lt-ltb, le-ltb}
 use lib.ListN.{length, set, length-append}
 use Rattle.octets.specs.Numbers.{octets, laid}
-use Rattle.octets.specs.Refusals.{outputTooShort}
 use Rattle.octets.proofs.Numbers.{length-octets}
 use Rattle.octets.proofs.Laying.{laid-laid, length-laid}
 use Rattle.layouts.specs.Categories.{category}
 use Rattle.blocks.specs.Records.{Rec}
 use Rattle.blocks.specs.Blocks.{putRecs, putBlock}
-use Rattle.writing.specs.Written.{Outcome, no, block, within, answerOf, outputOf, listedWritten, outcomeListed, headerOctets}
-use Rattle.writing.specs.declared.block.Written.{Written}
+use Rattle.writing.specs.Written.{headerOctets}
 
 -- an octet stored, and others laid behind it
 pub first-laid : (l : List ℕ) (x : ℕ) (p : List ℕ) → 0 < length l → laid (set l 0 x) 1 p ≡ laid l 0 (x ∷ p)
@@ -57,20 +54,3 @@ module _ (cat : ℕ) (rs : List Rec) (n : ℕ) (is : n ≡ length (putRecs (cate
 
     pub body-laid : l₂ ≡ laid l 0 (putBlock cat rs)
     body-laid = f ∙ rw e (block-laid l cat rs n is h)
-
--- The answer and the output
-
--- what a function that writes says of its outcome
-abbrev pub Says : List ℕ → List ℕ → Written → Outcome → Type 0
-Says l l' r x = (l' ≡ outputOf l x) × (r ≡ answerOf x) × (listedWritten r ≡ outcomeListed x)
-
-pub says-no : (l : List ℕ) (x : Outcome) (n : ℕ) → x ≡ no n → Says l l (Written.Refused n) (within (length l) x)
-says-no l x n e = rw e (refl, refl, refl)
-
-pub says-short : (l : List ℕ) (x : Outcome) (xs : List ℕ) → x ≡ block xs → length l < length xs
-    → Says l l (Written.Refused outputTooShort) (within (length l) x)
-says-short l x xs e h = rw (e, lt-ltb (length l) (length xs) h) (refl, refl, refl)
-
-pub says-block : (l : List ℕ) (x : Outcome) (xs : List ℕ) (n : ℕ) → x ≡ block xs → length xs ≡ n → n ≤ length l
-    → (l' : List ℕ) → l' ≡ laid l 0 xs → Says l l' (Written.Octets n) (within (length l) x)
-says-block l x xs n e k h l' is = rw (e, ← k, le-ltb (length l) (length xs) (omega arith)) (is, refl, refl)

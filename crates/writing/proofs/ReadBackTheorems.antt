@@ -44,7 +44,8 @@ use Rattle.blocks.proofs.TypedLaws.{field-form, groups-at}
 use Rattle.blocks.proofs.MeaningLaws.{made-item, means-read}
 use Rattle.blocks.proofs.BoundaryLaws.{read-filled, step-read}
 use Rattle.blocks.proofs.StepLaws.{entry-taken}
-use Rattle.writing.specs.Written.{block, writeOf}
+use Rattle.octets.specs.Outcomes.{puts}
+use Rattle.writing.specs.Written.{writeOf}
 use Rattle.writing.specs.Same.{has, entriesForm, otherForm, Same}
 use Rattle.writing.proofs.MarksWritten.{flags-sevens, by-fields}
 use Rattle.writing.proofs.ItemsWritten.{form-in}
@@ -301,7 +302,7 @@ module _ (s : List ℕ) (o : Octets s) (t : Record) (w : Fine s t) (small : t .m
       go false e = let z : back .entries ≡ nowhere = cc in ap (λ (p : Place). p .count) z
 
 -- What is put out is read back, whatever stands behind it
-module _ (s : List ℕ) (o : Octets s) (t : Record) (small : t .marks < 4294967296) (xs : List ℕ) (h : writeOf s t ≡ block xs)
+module _ (s : List ℕ) (o : Octets s) (t : Record) (small : t .marks < 4294967296) (xs : List ℕ) (h : writeOf s t ≡ puts xs)
     (u : List ℕ) (o' : Octets u) where
   octets : Octets (xs ++ u)
   octets = joined xs u (write-octets s t small xs h) o'

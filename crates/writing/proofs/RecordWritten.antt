@@ -22,7 +22,8 @@ use Rattle.blocks.specs.Meaning.{sevens, recOf}
 use Rattle.blocks.specs.declared.record.Record.{Record}
 use Rattle.blocks.proofs.WalkSteps.{table}
 use Rattle.writing.specs.Judged.{orElse, typeIn, itemsRefusal, itemsSize, flags, fields, itemsOctets, markedRefusal, presenceRefusal, recordRefusal, recordOctets, recordSize}
-use Rattle.writing.specs.Written.{no, block, writeOf}
+use Rattle.octets.specs.Outcomes.{no, puts}
+use Rattle.writing.specs.Written.{writeOf}
 use Rattle.writing.proofs.MarksWritten.{record-parts, present-by-type}
 use Rattle.writing.proofs.ItemsWritten.{none-of, items-bound}
 
@@ -163,7 +164,7 @@ module _ (s : List ℕ) (t : Record) (n : ℕ) where
   -- a record that is not refused is a block of one record, which has so many octets behind its header
   pub record Good : Type 0 where
     pub fine : recordRefusal s t ≡ 0
-    pub is : writeOf s t ≡ block (putBlock (t .category) (recOf s t ∷ []))
+    pub is : writeOf s t ≡ puts (putBlock (t .category) (recOf s t ∷ []))
     pub long : n ≡ length (recordOctets s t)
     pub same : putRecs (category (t .category)) (recOf s t ∷ []) ≡ recordOctets s t
 

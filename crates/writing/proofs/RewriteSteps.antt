@@ -23,12 +23,14 @@ use Rattle.blocks.proofs.ListedLaws.{read-block}
 use Rattle.blocks.proofs.BoundaryLaws.{not-accepted}
 use Rattle.blocks.proofs.StepLaws.{take-took, take-stopped}
 use Rattle.writing.specs.Judged.{recordRefusal, recordOctets, recordSize}
-use Rattle.writing.specs.Written.{no, block, within, rewriteFrom, rewriteOf, headerOctets, goodAt}
-use Rattle.writing.specs.declared.block.Written.{Written}
+use Rattle.octets.specs.Outcomes.{no, puts, within}
+use Rattle.writing.specs.Written.{rewriteFrom, rewriteOf, headerOctets, goodAt}
+use Rattle.octets.specs.declared.output.Written.{Written}
+use Rattle.octets.proofs.Outcomes.{Says, says-short, says-puts}
 use Rattle.writing.proofs.Reread.{read-judged, read-octets}
 use Rattle.writing.proofs.GoodLaws.{good-end, good-refused, good-step, good-short, Accepted}
 use Rattle.writing.proofs.RecordWritten.{refused-size, write-good}
-use Rattle.writing.proofs.BlockSteps.{block-long, body-room, body-same, body-laid, Says, says-short, says-block}
+use Rattle.writing.proofs.BlockSteps.{block-long, body-room, body-same, body-laid}
 
 -- The octets of the records from an offset on, in normal form
 module _ (s : List ℕ) (len number : ℕ) where
@@ -158,7 +160,7 @@ module _ (s : List ℕ) (cat len : ℕ) (o : Octets s) (w : Accepted s cat len) 
   abbrev whole : List ℕ
   whole = putBlock cat (goodAt s len (category cat) len 3)
 
-  rewrite-is : rewriteOf s ≡ block whole
+  rewrite-is : rewriteOf s ≡ puts whole
   unfolding rewriteOf
   rewrite-is = ap rewriteFrom (w .is)
 
@@ -184,4 +186,4 @@ module _ (s : List ℕ) (cat len : ℕ) (o : Octets s) (w : Accepted s cat len) 
 
       pub rewrite-whole : Says l l₂ (Written.Octets (n + 3)) (within (length l) (rewriteOf s))
       rewrite-whole =
-          says-block l (rewriteOf s) whole (n + 3) rewrite-is whole-long h l₂ (body-laid cat (goodAt s len (category cat) len 3) n is l l₁ h e l₂ f)
+          says-puts l (rewriteOf s) whole (n + 3) rewrite-is whole-long h l₂ (body-laid cat (goodAt s len (category cat) len 3) n is l l₁ h e l₂ f)

@@ -19,7 +19,8 @@ use Rattle.blocks.proofs.HeaderLaws.{header-good}
 use Rattle.blocks.proofs.BlockLaws.{OfAll, Sound, block-sound, block-normal, put-len}
 use Rattle.blocks.proofs.ListedLaws.{read-block}
 use Rattle.blocks.proofs.BoundaryLaws.{read-filled, visited, visited-only}
-use Rattle.writing.specs.Written.{no, block, rewriteFrom, rewriteOf}
+use Rattle.octets.specs.Outcomes.{no, puts}
+use Rattle.writing.specs.Written.{rewriteFrom, rewriteOf}
 use Rattle.writing.proofs.BlockSteps.{block-long}
 
 -- what was rewritten: the records of an accepted block, in normal form
@@ -29,19 +30,19 @@ pub record Rewritten (s xs : List ℕ) : Type 0 where
   pub read : blockOf s ≡ all cat rs
   pub is : xs ≡ putBlock cat rs
 
-pub not-block : {n : ℕ} {xs : List ℕ} → no n ≡ block xs → ⊥
-not-block h = let z : _≡_ {A = ℕ} 0 1 = cc in omega arith
+pub not-puts : {n : ℕ} {xs : List ℕ} → no n ≡ puts xs → ⊥
+not-puts h = let z : _≡_ {A = ℕ} 0 1 = cc in omega arith
 
-pub rewritten : (s xs : List ℕ) → rewriteOf s ≡ block xs → Rewritten s xs
+pub rewritten : (s xs : List ℕ) → rewriteOf s ≡ puts xs → Rewritten s xs
 unfolding rewriteOf
 rewritten s xs = go (blockOf s) refl
   where
-    go : (b : Block) → blockOf s ≡ b → rewriteFrom b ≡ block xs → Rewritten s xs
-    go (wrong n at) e h = absurd (not-block h)
+    go : (b : Block) → blockOf s ≡ b → rewriteFrom b ≡ puts xs → Rewritten s xs
+    go (wrong n at) e h = absurd (not-puts h)
     go (all cat rs) e h = record { cat = cat; rs = rs; read = e; is = cc }
 
 -- the rewriting of an accepted block
-pub rewrite-read : (s : List ℕ) (cat : ℕ) (rs : List Rec) → blockOf s ≡ all cat rs → rewriteOf s ≡ block (putBlock cat rs)
+pub rewrite-read : (s : List ℕ) (cat : ℕ) (rs : List Rec) → blockOf s ≡ all cat rs → rewriteOf s ≡ puts (putBlock cat rs)
 unfolding rewriteOf
 rewrite-read s cat rs e = rw e
 
@@ -50,7 +51,7 @@ pub rewrite-same : (s t : List ℕ) → blockOf s ≡ blockOf t → rewriteOf s 
 unfolding rewriteOf
 rewrite-same s t e = ap rewriteFrom e
 
-module _ (s xs : List ℕ) (o : Octets s) (h : rewriteOf s ≡ block xs) where
+module _ (s xs : List ℕ) (o : Octets s) (h : rewriteOf s ≡ puts xs) where
   abbrev w : Rewritten s xs
   w = rewritten s xs h
 
@@ -62,7 +63,7 @@ module _ (s xs : List ℕ) (o : Octets s) (h : rewriteOf s ≡ block xs) where
   rewrite-accepted t = rw (w .is) (block-normal s (w .cat) (w .rs) o (w .read) t ∙ sym (w .read))
 
   -- Rewriting it again changes nothing.
-  pub rewrite-again : (t : List ℕ) → rewriteOf (xs ++ t) ≡ block xs
+  pub rewrite-again : (t : List ℕ) → rewriteOf (xs ++ t) ≡ puts xs
   rewrite-again t = rewrite-same (xs ++ t) s (rewrite-accepted t) ∙ h
 
   -- It is never longer than the block that was read.

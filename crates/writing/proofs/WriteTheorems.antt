@@ -22,13 +22,14 @@ use Rattle.blocks.proofs.WalkSteps.{by-known, table}
 use Rattle.blocks.proofs.BlockLaws.{record-some, block-put, put-len}
 use Rattle.blocks.proofs.ListedLaws.{read-block}
 use Rattle.writing.specs.Judged.{recordRefusal, recordOctets, flags, fields}
-use Rattle.writing.specs.Written.{no, block, writeOf, rewriteOf}
+use Rattle.octets.specs.Outcomes.{no, puts}
+use Rattle.writing.specs.Written.{writeOf, rewriteOf}
 use Rattle.writing.proofs.MarksWritten.{length-marks, layout-same, marks-good, record-parts}
 use Rattle.writing.proofs.ItemsWritten.{items-fit, items-bound}
 use Rattle.writing.proofs.RecordWritten.{fine}
 use Rattle.writing.proofs.OctetsWritten.{marks-short, sevens-are, block-are}
 use Rattle.writing.proofs.BlockSteps.{block-long}
-use Rattle.writing.proofs.RewriteTheorems.{not-block, rewrite-read}
+use Rattle.writing.proofs.RewriteTheorems.{not-puts, rewrite-read}
 
 module _ (s : List ℕ) (t : Record) (small : t .marks < 4294967296) where
   -- a record that is not refused is one that may be put, and its octets fit LEN
@@ -52,17 +53,17 @@ module _ (s : List ℕ) (t : Record) (small : t .marks < 4294967296) where
       rw (record-parts s t (w .known) small (w .marks), length-append)
       (omega (arith, marks-short (sevens 4 (t .marks)), length-marks 4 (t .marks), items-bound s t (flags s t) (fields s t) (w .items)))
 
-  module _ (xs : List ℕ) (h : writeOf s t ≡ block xs) where
+  module _ (xs : List ℕ) (h : writeOf s t ≡ puts xs) where
     -- what was written: a record that is not refused
     pub accepted : (recordRefusal s t ≡ 0) × (xs ≡ putBlock (t .category) (recOf s t ∷ []))
     unfolding writeOf
     accepted = go (eqb (recordRefusal s t) 0) (eqb-true (recordRefusal s t) 0) h
       where
         go : (b : Bool) → (b ≡ true → recordRefusal s t ≡ 0)
-            → pick b (block (putBlock (t .category) (recOf s t ∷ []))) (no (recordRefusal s t)) ≡ block xs
+            → pick b (puts (putBlock (t .category) (recOf s t ∷ []))) (no (recordRefusal s t)) ≡ puts xs
             → (recordRefusal s t ≡ 0) × (xs ≡ putBlock (t .category) (recOf s t ∷ []))
         go true f e = (f refl, cc)
-        go false f e = absurd (not-block e)
+        go false f e = absurd (not-puts e)
 
     same : putRecs (category (t .category)) (recOf s t ∷ []) ≡ recordOctets s t
     unfolding putRecs recordOctets
@@ -81,8 +82,8 @@ module _ (s : List ℕ) (t : Record) (small : t .marks < 4294967296) where
         (rw same (record-some (category (t .category)) (recOf s t) g)) fits)
 
     -- It is its own rewriting.
-    pub write-normal : (u : List ℕ) → rewriteOf (xs ++ u) ≡ block xs
-    write-normal u = rewrite-read (xs ++ u) (t .category) (recOf s t ∷ []) (write-accepted u) ∙ ap block (sym (accepted .1))
+    pub write-normal : (u : List ℕ) → rewriteOf (xs ++ u) ≡ puts xs
+    write-normal u = rewrite-read (xs ++ u) (t .category) (recOf s t ∷ []) (write-accepted u) ∙ ap puts (sym (accepted .1))
 
     -- Its answer: its own length, and one record.
     pub write-reading : (u : List ℕ) → readOf (xs ++ u) ≡ Reading.Accepted (length xs) 1

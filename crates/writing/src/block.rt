@@ -6,7 +6,8 @@ ghost use lib.ListN.{length};
 ghost use Rattle.octets.specs.Numbers.{laid};
 ghost use Rattle.layouts.specs.Categories.{category, known};
 ghost use Rattle.blocks.specs.Blocks.{putRecs};
-ghost use Rattle.writing.specs.Written.{goodAt, headerOctets, within, writeOf, rewriteOf, answerOf, outputOf, listedWritten, outcomeListed};
+ghost use Rattle.octets.specs.Outcomes.{within, answerOf, outputOf, listedWritten, outcomeListed};
+ghost use Rattle.writing.specs.Written.{goodAt, headerOctets, writeOf, rewriteOf};
 use crate::record::put_record;
 use crate::record::record_size;
 use blocks::cursor::Step;
@@ -15,13 +16,8 @@ use blocks::record::Record;
 use blocks::walk::Reading;
 use blocks::walk::read;
 use items::item::Size;
+use octets::output::Written;
 use octets::refusal;
-
-// How many octets were written, or the number that refused.
-pub enum Written {
-    Octets(usize),
-    Refused(u8),
-}
 
 // Writes CAT and LEN.
 fn put_header(out: &mut [u8], number: u8, len: usize)

@@ -5,7 +5,7 @@ use native.Mathlib.Omega.{arith}
 use borrow.Author.Needs.{needs}
 use lib.ListN.{getD}
 use Rattle.writing.proofs.GoodLaws.{Accepted, read-accepted}
-use Rattle.writing.proofs.BlockSteps.{says-no}
+use Rattle.octets.proofs.Outcomes.{says-no}
 use Rattle.writing.proofs.RewriteSteps.{rewrite-refused, rewrite-low, rewrite-short, rewrite-room, rewrite-same, rewrite-whole}
 use Rattle.writing.proofs.block.rewrite.Statement.{statement}
 use Rattle.writing.proofs.block.rewrite.Tie as tie

@@ -4,7 +4,7 @@ use Prim.Native.Nat.{_<_}
 use native.Mathlib.Omega.{arith}
 use borrow.Author.Needs.{needs}
 use Rattle.writing.proofs.RecordWritten.{Good, write-refused, write-good}
-use Rattle.writing.proofs.BlockSteps.{says-no, says-short, says-block}
+use Rattle.octets.proofs.Outcomes.{says-no, says-short, says-puts}
 use Rattle.writing.proofs.WriteSteps.{whole-long, whole-low, record-room, whole-same, whole-laid}
 use Rattle.writing.proofs.block.write.Statement.{statement}
 use Rattle.writing.proofs.block.write.Tie as tie
@@ -61,7 +61,7 @@ returns-3 c =
     let h = p .before .before .before .before in
     let k = h .before .before .before in
     let g = good k in
-    says-block _ _ _ _ (g .is) (whole-long _ _ _ g) (h .before .before .if1 .left) _
+    says-puts _ _ _ _ (g .is) (whole-long _ _ _ g) (h .before .before .if1 .left) _
     (whole-laid _ _ _ g _ _ (h .before .before .if1 .left) (h .put-header .ensures) _ (p .put-record .ensures .0))
 
 pub write-spec : {M : Type 1} → statement M

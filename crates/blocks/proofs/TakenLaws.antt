@@ -1,0 +1,71 @@
+-- What every record has that a step hands out: SID and STYP have four bits, and its entries lie in the octets. Assumes nothing.
+use mathlib.Core.Path.{_≡_, sym, _∙_, subst}
+use mathlib.Core.Bool.{true}
+use mathlib.Core.List.{List}
+use Prim.Native.Nat.{ℕ, _+_, _*_, _-_, _<_, _≤_}
+use native.Mathlib.Nat.{mod-lt}
+use native.Mathlib.Omega.{arith}
+use lib.ListN.{length}
+use Rattle.octets.specs.Numbers.{Octets}
+use Rattle.layouts.specs.Groups.{values}
+use Rattle.layouts.specs.Formats.{Answer, refused, got}
+use Rattle.layouts.specs.Offsets.{traceAt}
+use Rattle.layouts.specs.Layouts.{format}
+use Rattle.layouts.specs.Categories.{category, known}
+use Rattle.items.specs.declared.typed.Service.{Service}
+use Rattle.blocks.specs.Offsets.{specsAt}
+use Rattle.blocks.specs.Typed.{typedOf}
+use Rattle.blocks.specs.Steps.{typedBehind, takeOf, stepOf, entryGroupOf}
+use Rattle.blocks.specs.declared.record.Record.{Record}
+use Rattle.blocks.specs.declared.cursor.Cursor.{Cursor}
+use Rattle.blocks.specs.declared.cursor.Step.{Step}
+use Rattle.blocks.proofs.HeaderLaws.{header-good}
+use Rattle.blocks.proofs.TypedLaws.{typed-good, entries-within}
+use Rattle.blocks.proofs.StepLaws.{Taking, take-took, step-took}
+
+-- four bits each
+abbrev pub Narrow : Service → Type 0
+Narrow x = (x .sid < 16) × (x .styp < 16)
+
+-- the entries lie in the octets
+abbrev pub Room : List ℕ → Record → Type 0
+Room s t = t .entries .at + t .entries .count * entryGroupOf (t .category) .wide ≤ length s
+
+-- of octets, whatever they are: both are read from four bits
+typed-narrow : (s : List ℕ) (len number marks at : ℕ) → Narrow (typedOf s len number marks at .service)
+unfolding typedOf traceAt format values
+typed-narrow s len number marks at = (mod-lt _ (omega arith), mod-lt _ (omega arith))
+
+behind-narrow : (s : List ℕ) (len number at : ℕ) (a : Answer ℕ (List ℕ)) → Narrow (typedBehind s len number at a .service)
+behind-narrow s len number at (refused n) = typed-narrow s len number 0 at
+behind-narrow s len number at (got gs p) = typed-narrow s len number _ p
+
+-- a record of a block that was taken at an offset
+module _ (s : List ℕ) (len number at : ℕ) (t : Record) (next : ℕ) (fit : len ≤ length s) (k : known number ≡ true) (o : Octets s)
+    (w : Taking s len number at t next) where
+  taking-narrow : Narrow (t .service)
+  taking-narrow =
+      subst (λ (x : Record). Narrow (x .service)) (typed-good s len number at o fit k (w .r) next (w .is) ∙ sym (w .same))
+      (behind-narrow s len number at (specsAt s len (category number .most - 1) at))
+
+  taking-room : Room s t
+  taking-room = let l = entries-within s len number at o fit k (w .r) next (w .is) t (w .same) in omega arith
+
+-- what `take` asks of a block's octets, its end, its category and an offset
+abbrev pub Inside : List ℕ → ℕ → ℕ → ℕ → Type 0
+Inside s len number at = (at < len) × (len ≤ length s) × (known number ≡ true)
+
+-- the same of a step inside a block, and of a step
+module _ (s : List ℕ) (len number at : ℕ) (t : Record) (c : Cursor) (w : Inside s len number at) (o : Octets s)
+    (h : Step.Taken t c ≡ takeOf s len number at) where
+  pub service-narrow : Narrow (t .service)
+  service-narrow = taking-narrow s len number at t (c .at) (w .1) (w .2) o (take-took s len number at t c (sym h))
+
+  pub take-room : Room s t
+  take-room = taking-room s len number at t (c .at) (w .1) (w .2) o (take-took s len number at t c (sym h))
+
+pub step-narrow : (s : List ℕ) (start : ℕ) (t : Record) (c : Cursor) → Octets s → Step.Taken t c ≡ stepOf s start → Narrow (t .service)
+step-narrow s start t c o h =
+    let w = step-took s start t c (sym h) in
+    let g = header-good s (w .cat) (w .len) (w .head) in
+    taking-narrow s (w .len) (w .cat) start t (c .at) (g .fits) (g .known) o (w .taking)

@@ -1,0 +1,131 @@
+-- Demand 3: reports over a ledger with room may be put in any order that keeps the order of any two that share a counter: same answers, same
+-- ledger. Each row equals the adding-up rule on that counter's own entries through the accepted reports. No report lowers a life count.
+-- What a run, a counter's name and another order are: specs/Runs.antt. Assumes nothing.
+use mathlib.Core.Bool.{true, false, false≢true}
+use mathlib.Core.List.{List, [], _∷_, map}
+use mathlib.Core.Path.{_≡_, refl, ap, sym, _∙_, subst}
+use Prim.Native.Nat.{ℕ, zero, suc, _≤_, _<_}
+use native.Mathlib.Omega.{arith}
+use borrow.Author.Tests.{ltb-true}
+use lib.Dec.{ltb}
+use lib.ListN.{length, getD, length-map}
+use Rattle.octets.specs.Choice.{pick}
+use Rattle.rows.specs.Rows.{rowOf, lifeOf, addUp}
+use Rattle.rows.specs.Posting.{refused, entries, names, answers, after, ofKey, tally, accepted}
+use Rattle.rows.specs.Order.{times}
+use Rattle.rows.specs.Order as rows
+use Rattle.rows.proofs.Cases.{test}
+use Rattle.rows.proofs.Numbers.{map-same, upto, times-upto, place-upto}
+use Rattle.rows.proofs.Theorems.{adding-key, any-order, row-rule}
+use Rattle.ledger.specs.Ledgers.{answer, rowsOf, ledgerOf, keepsRules, Held}
+use Rattle.ledger.specs.Posts.{postOf}
+use Rattle.ledger.specs.Steps.{Kept}
+use Rattle.ledger.specs.declared.Answer.{Answer}
+use Rattle.ledger.specs.declared.Ledger.{Ledger}
+use Rattle.ledger.proofs.RuleLaws.{kept-rules, rules-kept}
+use Rattle.ledger.proofs.PostTheorems.{posted-is, posted-rows, posted-kept, posted-grows}
+use Rattle.demands.specs.Contracts.{Posts}
+use Rattle.demands.specs.Runs.{Sent, nothing, Run, report, Names, Room, Order, inOrder, answersInOrder}
+
+-- A run of posts is a run of its reports over the ledger's rows
+
+record Ran (l : Ledger) (xs : List Sent) (ns : List ℕ) (end : Ledger) : Type 0 where
+  told : ns ≡ answers addUp (rowsOf l) (map report xs)
+  left : rowsOf end ≡ after addUp (rowsOf l) (map report xs)
+  kept : Kept end
+
+ran : (l end : Ledger) (xs : List Sent) (ns : List ℕ) → Kept l → Run l xs ns end → Ran l xs ns end
+unfolding answers after
+ran l end [] [] k h = record { told = refl; left = ap rowsOf h; kept = subst Kept (sym h) k }
+ran l end [] (n ∷ ns) k h = absurd h
+ran l end (x ∷ xs) [] k h = absurd h
+ran l end (x ∷ xs) (n ∷ ns) k h =
+    let is = h .1 in
+    let m-kept : Kept (h .0) = subst (λ (a : Answer). Kept (a .ledger)) (sym is) (posted-kept (x .octets) (x .number) l k) in
+    let rest = ran (h .0) end xs ns m-kept (h .2) in
+    let rows : rowsOf (h .0) ≡ _ = ap (λ (a : Answer). rowsOf (a .ledger)) is ∙ posted-rows (x .octets) (x .number) l k in
+    let first : n ≡ _ = ap (λ (a : Answer). a .number) (is ∙ posted-is (x .octets) (x .number) l k) in
+    record {
+      told = λ i. first i ∷ (rest .told ∙ ap (λ rs. answers addUp rs (map report xs)) rows) i;
+      left = rest .left ∙ ap (λ rs. after addUp rs (map report xs)) rows;
+      kept = rest .kept;
+    }
+
+-- Another order of a run is one of its reports
+
+map-twice : {A B : Type 0} (f : A → B) (g : ℕ → A) (l : List ℕ) → map f (map g l) ≡ map (λ i. f (g i)) l
+map-twice f g [] = refl
+map-twice f g (i ∷ l) = ap (λ t. f (g i) ∷ t) (map-twice f g l)
+
+at-place : (xs : List Sent) (i : ℕ) → i < length xs → rows.report (map report xs) i ≡ report (getD xs i nothing)
+at-place [] i h = absurd (omega arith)
+at-place (x ∷ xs) zero h = refl
+at-place (x ∷ xs) (suc i) h = at-place xs i (omega arith)
+
+module _ (xs : List Sent) (order : List ℕ) (o : Order xs order) where
+  within : (i : ℕ) → 1 ≤ times i order → i < length xs
+  within i h =
+      test (ltb i (length xs)) (ltb-true i (length xs)) (λ f. absurd (let z : 1 ≤ pick false 1 0 = subst (λ b. 1 ≤ pick b 1 0) f (rw (o .once i) at h) in omega arith))
+
+  in-order : map report (inOrder order xs) ≡ rows.inOrder order (map report xs)
+  in-order = map-twice report (λ i. getD xs i nothing) order ∙ map-same _ _ order (λ i h. sym (at-place xs i (within i h)))
+
+  of-reports : rows.Order (map report xs) order
+  of-reports = record {
+    once = λ i. rw (length-map xs report) (o .once i);
+    keeps = λ i j l h s.
+        let n : length (map report xs) ≡ length xs = length-map xs report in
+        o .keeps i j l (omega arith)
+        (s .0, subst (λ r. names (s .0) (entries r) ≡ true) (at-place xs i (omega arith)) (s .1), subst (λ r. names (s .0) (entries r) ≡ true) (at-place xs j (omega arith)) (s .2));
+  }
+
+-- Two runs of the same reports, in two orders, over a ledger with room: each report gets the same answer, and the ledger ends the same.
+pub same-end : (l : Ledger) → Held l → keepsRules l ≡ true → (xs : List Sent) → Room l xs → (order : List ℕ) → Order xs order
+    → (ns ms : List ℕ) (end end' : Ledger) → Run l xs ns end → Run l (inOrder order xs) ms end' → (ms ≡ answersInOrder order ns) × (end' ≡ end)
+same-end l held keeps xs room order o ns ms end end' h h' =
+    let k = kept-rules l held keeps in
+    let a = ran l end xs ns k h in
+    let b = ran l end' (inOrder order xs) ms k h' in
+    let same = any-order addUp adding-key (rowsOf l) (map report xs) order (k .good .rises) room (of-reports xs order o) in (
+      b .told ∙ ap (answers addUp (rowsOf l)) (in-order xs order o) ∙ same .answered ∙ ap (answersInOrder order) (sym (a .told)),
+      b .kept .rest ∙ ap ledgerOf (b .left ∙ ap (after addUp (rowsOf l)) (in-order xs order o) ∙ same .ended ∙ sym (a .left)) ∙ sym (a .kept .rest),
+    )
+
+-- The row rule: after a run each counter's row is the adding-up rule over that counter's own entries, in their order, of the reports that
+-- were answered 0, from its row at the start.
+pub row-at-end : (l : Ledger) → Held l → keepsRules l ≡ true → (xs : List Sent) (ns : List ℕ) (end : Ledger) → Run l xs ns end
+    → (c : ℕ) → rowOf (rowsOf end) c ≡ tally addUp c (rowOf (rowsOf l) c) (ofKey c (accepted ns (map report xs)))
+row-at-end l held keeps xs ns end h c =
+    let k = kept-rules l held keeps in
+    let a = ran l end xs ns k h in
+    ap (λ rs. rowOf rs c) (a .left) ∙ row-rule addUp adding-key (rowsOf l) (map report xs) (k .good .rises) c
+    ∙ ap (λ t. tally addUp c (rowOf (rowsOf l) c) (ofKey c (accepted t (map report xs)))) (sym (a .told))
+
+-- A run keeps the ledger's rules.
+pub rules-at-end : (l : Ledger) → Held l → keepsRules l ≡ true → (xs : List Sent) (ns : List ℕ) (end : Ledger) → Run l xs ns end → keepsRules end ≡ true
+rules-at-end l held keeps xs ns end h = rules-kept end (ran l end xs ns (kept-rules l held keeps) h .kept)
+
+-- No report lowers a life count, whatever the ledger.
+pub never-lowered : (l : Ledger) → Held l → (s : List ℕ) (k n : ℕ) (m : Ledger) → Posts l s k (answer n m)
+    → (c : ℕ) → lifeOf (rowOf (rowsOf l) c) ≤ lifeOf (rowOf (rowsOf m) c)
+never-lowered l held s k n m h c = subst (λ (a : Answer). lifeOf (rowOf (rowsOf l) c) ≤ lifeOf (rowOf (rowsOf (a .ledger)) c)) (sym h) (posted-grows s k l held c)
+
+-- Every list of reports has a run, over every ledger,
+pub some-run : (l : Ledger) (xs : List Sent) → (ns : List ℕ) × (end : Ledger) × Run l xs ns end
+some-run l [] = ([], l, refl)
+some-run l (x ∷ xs) =
+    let a = postOf l (x .octets) (x .number) in
+    let rest = some-run (a .ledger) xs in
+    (a .number ∷ rest .0, rest .1, (a .ledger, refl, rest .2))
+
+-- and every run an order, its own.
+pub own-order : (xs : List Sent) → Order xs (upto (length xs))
+own-order xs = record {
+  once = λ i. times-upto i (length xs);
+  keeps = λ i j h l s. rw (place-upto i (length xs) (omega arith), place-upto j (length xs) l) h;
+}
+
+-- A report that is refused for its octets (1 to 11, 17, 13) names no counter.
+pub names-none : (x : Sent) (n : ℕ) → report x ≡ refused n → (k : ℕ) → Names x k → ⊥
+unfolding names
+names-none x n e k h = false≢true (subst (λ r. names k (entries r) ≡ true) e h)

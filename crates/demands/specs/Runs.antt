@@ -1,0 +1,57 @@
+-- Demand 3 in words: a run of posts, the counters that a report names, another order of a run, and what is the same at the end.
+use mathlib.Core.Bool.{true}
+use mathlib.Core.List.{List, [], _∷_, map}
+use mathlib.Core.Path.{_≡_}
+use Prim.Native.Nat.{ℕ, _≤_, _<_}
+use lib.Dec.{ltb}
+use lib.ListN.{length, getD}
+use Rattle.octets.specs.Choice.{pick}
+use Rattle.rows.specs.Posting.{Report, entries, allEntries, names, rowsFor}
+use Rattle.rows.specs.Order.{times, place}
+use Rattle.ledger.specs.Ledgers.{answer, rowsOf}
+use Rattle.ledger.specs.Reports.{reportOf}
+use Rattle.ledger.specs.declared.Ledger.{Ledger}
+use Rattle.demands.specs.Contracts.{Posts}
+
+-- what comes in: octets, and the number of a record in them
+pub record Sent : Type 0 where
+  pub octets : List ℕ
+  pub number : ℕ
+
+abbrev pub nothing : Sent
+nothing = record { octets = []; number = 0 }
+
+-- A run: each is posted to the ledger that the one before left. The answers in turn, and the ledger at the end.
+abbrev pub Run : Ledger → List Sent → List ℕ → Ledger → Type 0
+Run l [] [] end = end ≡ l
+Run l [] (n ∷ ns) end = ⊥
+Run l (x ∷ xs) [] end = ⊥
+Run l (x ∷ xs) (n ∷ ns) end = (m : Ledger) × Posts l (x .octets) (x .number) (answer n m) × Run m xs ns end
+
+-- The counters that it names are those of the entries of its report: of one that is refused with 1 to 11, 17 or 13 none; a report that
+-- is refused with 14 or 15 has them all the same.
+abbrev pub report : Sent → Report
+report x = reportOf (x .octets) (x .number)
+
+abbrev pub Names : Sent → ℕ → Type 0
+Names x k = names k (entries (report x)) ≡ true
+
+abbrev pub Shares : Sent → Sent → Type 0
+Shares x y = (k : ℕ) × Names x k × Names y k
+
+-- Room in a ledger for every counter that a run names, whatever is refused.
+abbrev pub Room : Ledger → List Sent → Type 0
+Room l xs = rowsFor (rowsOf l) (allEntries (map report xs)) ≤ 256
+
+-- Another order of a run lists the places of its reports, each once and nothing else; of any two that share a counter, the one that comes
+-- first in the run comes first in the order.
+pub record Order (xs : List Sent) (order : List ℕ) : Type 0 where
+  pub once : (i : ℕ) → times i order ≡ pick (ltb i (length xs)) 1 0
+  pub keeps : (i j : ℕ) → i < j → j < length xs → Shares (getD xs i nothing) (getD xs j nothing) → place i order < place j order
+
+-- a run in that order, and its answers in that order
+abbrev pub inOrder : List ℕ → List Sent → List Sent
+inOrder order xs = map (λ i. getD xs i nothing) order
+
+abbrev pub answersInOrder : List ℕ → List ℕ → List ℕ
+answersInOrder order ns = map (λ i. getD ns i 0) order

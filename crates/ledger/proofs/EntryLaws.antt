@@ -1,0 +1,44 @@
+-- A report's entries: how many they are, and those that are left from one on. Assumes nothing.
+use mathlib.Core.List.{List, [], _∷_}
+use mathlib.Core.Path.{_≡_, refl, ap, sym, _∙_}
+use Prim.Native.Nat.{ℕ, zero, suc, _+_, _-_, _≤_, _<_}
+use native.Mathlib.Numerals.{add-one}
+use native.Mathlib.Omega.{arith}
+use lib.ListN.{length}
+use Rattle.blocks.specs.Statistics.{entryOf}
+use Rattle.blocks.specs.declared.statistics.Entry.{Entry as Counter}
+use Rattle.rows.specs.Rows.{Entry}
+use Rattle.ledger.specs.Reports.{entriesFrom}
+use Rattle.ledger.specs.Steps.{entry}
+
+-- there are as many entries as are asked for
+pub entries-long : (s : List ℕ) (first time at n k : ℕ) → length (entriesFrom s first time at n k) ≡ n
+unfolding entriesFrom
+entries-long s first time at zero k = refl
+entries-long s first time at (suc n) k = ap suc (entries-long s first time at n (suc k))
+
+-- the entry that is made of TYPE, REF and count
+abbrev pub entryFor : ℕ → ℕ → Counter → Entry
+entryFor first time x = entry (first + x .typ) time (x .reference) (x .count)
+
+module _ (s : List ℕ) (first at n time : ℕ) where
+  -- of n entries, those from the i-th on
+  abbrev pub left : ℕ → List Entry
+  left i = entriesFrom s first time at (n - i) i
+
+  -- at first all are left
+  pub left-all : left 0 ≡ entriesFrom s first time at n 0
+  left-all = ap (λ m. entriesFrom s first time at m 0) (omega arith)
+
+  -- below n the i-th is the next
+  pub left-next : (i : ℕ) (x : Counter) → x ≡ entryOf s at i → i < n → left i ≡ entryFor first time x ∷ left (i + 1)
+  unfolding entriesFrom
+  left-next i x q h =
+      let more : n - i ≡ suc (n - (i + 1)) = omega arith in
+      ap (λ m. entriesFrom s first time at m i) more
+      ∙ (λ p. entryFor first time (sym q p) ∷ entriesFrom s first time at (n - (i + 1)) (sym (add-one i) p))
+
+  -- from n on none is left
+  pub left-none : (i : ℕ) → n ≤ i → left i ≡ []
+  unfolding entriesFrom
+  left-none i h = let none-more : n - i ≡ 0 = omega arith in ap (λ m. entriesFrom s first time at m i) none-more

@@ -1,0 +1,107 @@
+-- The report that octets and a record number are, by what was read; and what holds of a record that a step hands out. Assumes nothing.
+use mathlib.Core.Path.{_≡_, refl, sym, _∙_}
+use mathlib.Core.Bool.{Bool, true, false, _&&_, false≢true}
+use mathlib.Core.List.{List}
+use Prim.Native.Nat.{ℕ, zero, suc, _+_, _*_, _-_, _<_, _≤_}
+use native.Mathlib.Omega.{arith}
+use borrow.Author.Tests.{eqb-true}
+use lib.ListN.{length}
+use Rattle.octets.specs.Numbers.{Octets}
+use Rattle.octets.specs.Refusals.{notStatistics}
+use Rattle.blocks.specs.Statistics.{statisticsOf}
+use Rattle.blocks.specs.Steps.{takeOf, stepOf}
+use Rattle.blocks.specs.Walks.{readOf}
+use Rattle.blocks.specs.declared.record.Record.{Record}
+use Rattle.blocks.specs.declared.cursor.Cursor.{Cursor}
+use Rattle.blocks.specs.declared.cursor.Step.{Step}
+use Rattle.blocks.specs.declared.cursor.Step.the-variants as step
+use Rattle.blocks.specs.declared.statistics.Statistics.{Statistics}
+use Rattle.blocks.specs.declared.walk.Reading.{Reading}
+use Rattle.blocks.proofs.StepLaws.{not-taken, ofStep, by-step, entries-room}
+use Rattle.blocks.proofs.TakenLaws.{Inside, service-narrow, take-room, step-narrow}
+use Rattle.rows.specs.Rows.{keyOf}
+use Rattle.rows.specs.Posting.{refused, counts}
+use Rattle.ledger.specs.Reports.{isStatistics, entriesFrom, reportIn, stepAt, reportOf}
+use Rattle.ledger.specs.Steps.{Lies}
+
+-- What holds of every record that a step hands out
+
+pub lies : (s : List ℕ) (start : ℕ) (t : Record) (c : Cursor) → Octets s → Step.Taken t c ≡ stepOf s start → Lies s t
+lies s start t c o h =
+    let n = step-narrow s start t c o h in
+    record { room = entries-room s start t c o h; sid = n .0; styp = n .1 }
+
+-- the same of a step inside a block whose header is good
+pub lies-take : (s : List ℕ) (len number at : ℕ) (t : Record) (c : Cursor) → Inside s len number at → Octets s
+    → Step.Taken t c ≡ takeOf s len number at → Lies s t
+lies-take s len number at t c w o h =
+    let n = service-narrow s len number at t c w o h in
+    record { room = take-room s len number at t c w o h; sid = n .0; styp = n .1 }
+
+-- Record k from a start: a step first, and then record k - 1 from where the step ended
+module _ (s : List ℕ) where
+  pub at-more : (k start : ℕ) → stepAt s (suc k) start ≡ ofStep Step.Refused (λ t next. stepAt s k next) (stepOf s start)
+  unfolding stepAt
+  at-more k start = sym (by-step Step.Refused (λ t next. stepAt s k next) s start)
+
+  pub at-last : (k start : ℕ) → k ≤ 0 → stepOf s start ≡ stepAt s k start
+  unfolding stepAt
+  at-last zero start l = refl
+  at-last (suc k) start l = absurd (omega arith)
+
+  pub at-stopped : (k start n p : ℕ) → 0 < k → Step.Refused n p ≡ stepOf s start → Step.Refused n p ≡ stepAt s k start
+  at-stopped zero start n p l h = absurd (omega arith)
+  at-stopped (suc k) start n p l h = rw (at-more, ← h)
+
+  pub at-next : (k start : ℕ) (t : Record) (c : Cursor) → 0 < k → Step.Taken t c ≡ stepOf s start → stepAt s k start ≡ stepAt s (k - 1) (c .at)
+  at-next zero start t c l h = absurd (omega arith)
+  at-next (suc k) start t c l h =
+      let e : suc k - 1 ≡ k = omega arith in
+      rw (at-more, ← h, e)
+
+  -- a record that is handed out after some steps is handed out by one
+  pub some-step : (k start : ℕ) (t : Record) (c : Cursor) → Step.Taken t c ≡ stepAt s k start → (p : ℕ) × (Step.Taken t c ≡ stepOf s p)
+  unfolding stepAt
+  some-step zero start t c h = (start, h)
+  some-step (suc k) start t c h = go (stepOf s start) (λ next. some-step k next t c) (h ∙ at-more k start)
+    where
+      go : (x : Step) → ((next : ℕ) → Step.Taken t c ≡ stepAt s k next → (p : ℕ) × (Step.Taken t c ≡ stepOf s p))
+          → Step.Taken t c ≡ ofStep Step.Refused (λ u next. stepAt s k next) x → (p : ℕ) × (Step.Taken t c ≡ stepOf s p)
+      go (step.Refused n p) ih e = absurd (not-taken (sym e))
+      go (step.Taken u next) ih e = ih (next .at) e
+
+-- of five tests that all hold the first holds
+first-holds : (a b c d e : Bool) → (a && b && c && d && e) ≡ true → a ≡ true
+first-holds true b c d e h = refl
+first-holds false b c d e h = absurd (false≢true h)
+
+-- The report that a typed record is
+module _ (s : List ℕ) (t : Record) where
+  pub report-other : isStatistics t ≡ false → refused notStatistics ≡ reportIn s t
+  unfolding reportIn
+  report-other e = rw e
+
+  module _ (e : isStatistics t ≡ true) (r : Statistics) (is : r ≡ statisticsOf t) where
+    pub report-counts : (first : ℕ) → first ≡ keyOf (r .sac) (r .sic) (r .service) 0
+        → counts (entriesFrom s first (t .time .0) (r .at) (r .count) 0) ≡ reportIn s t
+    unfolding reportIn
+    report-counts first f = rw (e, f, is)
+
+    -- its entries lie in the octets, six to each
+    pub entries-lie : Lies s t → r .at + r .count * 6 ≤ length s
+    entries-lie w = rw is (rw (eqb-true (t .category) 23 (first-holds _ _ _ _ _ e)) at (w .room))
+
+-- The report that octets and a record number are
+module _ (s : List ℕ) (k : ℕ) where
+  pub report-refused : (n at : ℕ) → Reading.Refused n at ≡ readOf s → refused n ≡ reportOf s k
+  unfolding reportOf
+  report-refused n at h = rw (← h)
+
+  module _ (len count : ℕ) (read : Reading.Accepted len count ≡ readOf s) where
+    pub report-stopped : (n at : ℕ) → Step.Refused n at ≡ stepAt s k 3 → refused n ≡ reportOf s k
+    unfolding reportOf
+    report-stopped n at h = rw (← read, ← h)
+
+    pub report-taken : (t : Record) (c : Cursor) → Step.Taken t c ≡ stepAt s k 3 → reportIn s t ≡ reportOf s k
+    unfolding reportOf
+    report-taken t c h = rw (← read, ← h)

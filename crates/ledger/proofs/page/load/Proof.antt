@@ -1,0 +1,88 @@
+-- `load`: the loop's invariant is that the columns hold the rows passed, the measure how many are left. Assumes nothing.
+use Prim.Native.Nat.{_-_}
+use mathlib.Core.Path.{_≡_}
+use Rattle.ledger.specs.Ledgers.{columns}
+use Rattle.ledger.specs.Pages.{ledgerIn}
+use borrow.Author.Needs.{needs}
+use borrow.Author.Tests.{not-true, not-false}
+use Rattle.ledger.proofs.PageSteps as steps
+use Rattle.ledger.proofs.page.load.Statement.{statement}
+use Rattle.ledger.proofs.page.load.Tie as tie
+
+abbrev Inv-loop : tie.InvT-loop
+Inv-loop page n keys₀ lives₀ readings₀ i₀ keys lives readings i = steps.Loaded page n keys lives readings i
+
+abbrev μ-loop : tie.MeasureT-loop
+μ-loop page n keys₀ lives₀ readings₀ i₀ keys lives readings i = n - i
+
+-- a head that is not kept
+returns : tie.Need-returns Inv-loop μ-loop
+returns c =
+    steps.load-unheaded _ _ (c .before .before .is-headed .ensures) (not-true _ (c .before .if1 .taken)) _ (c .broken .ensures)
+
+loop-holds : tie.Need-loop-holds Inv-loop μ-loop
+loop-holds c = steps.loaded-none _ _ _ (c .before .before .is-headed .ensures) (not-false _ (c .before .if1 .left)) (c .read2 .ensures)
+
+loop-again : tie.Need-loop-again Inv-loop μ-loop
+loop-again c =
+    let l = c .before .before .before .before in
+    steps.loaded-more _ _ _ _ _ _ (l .loop .inv) (c .before .before .before .loop-test .taken) _ _ _
+    (c .before .before .read4 .ensures) (c .before .read8 .ensures) (c .read42 .ensures)
+
+-- the whole ledger was read
+read : (c : tie.After-loop Inv-loop μ-loop)
+    → let w = c .before .loop in
+    columns (c .before .before .read2 .result) (w .keys) (w .lives) (w .readings)
+    ≡ ledgerIn (c .before .before .before .before .before .before .args .page .now)
+read c = steps.loaded-all _ _ _ _ _ _ (c .before .loop .inv) (c .loop-test .left) (c .before .before .read2 .ensures)
+
+-- rules that are not kept
+returns-2 : tie.Need-returns-2 Inv-loop μ-loop
+returns-2 c =
+    let k = c .before .before in
+    let e = k .before .before .before .before in
+    let r = e .before .before in
+    steps.load-broken _ _ (r .before .before .is-headed .ensures) (not-false _ (r .before .if1 .left)) _ (read e) _
+    (k .is-kept .ensures) (not-true _ (c .before .if2 .taken)) _ (c .broken2 .ensures)
+
+returns-3 : tie.Need-returns-3 Inv-loop μ-loop
+returns-3 c =
+    let k = c .before in
+    let e = k .before .before .before .before in
+    let r = e .before .before in
+    steps.load-kept _ _ (r .before .before .is-headed .ensures) (not-false _ (r .before .if1 .left)) _ (read e) _
+    (k .is-kept .ensures) (not-false _ (c .if2 .left))
+
+pub load-spec : {M : Type 1} → statement M
+load-spec =
+    tie.close
+    (tie.spec Inv-loop μ-loop
+    (λ c κs. search needs)
+    (λ c κs. search needs)
+    returns
+    (λ c κs. search needs)
+    (λ c. search needs)
+    loop-holds
+    (λ c. search needs)
+    (λ c. search needs)
+    (λ c. search needs)
+    (λ c. search needs)
+    (λ c. search needs)
+    (λ c. search needs)
+    (λ c κs. search needs)
+    (λ c. search needs)
+    (λ c. search needs)
+    (λ c κs. search needs)
+    (λ c. search needs)
+    (λ c. search needs)
+    (λ c. search needs)
+    (λ c κs. search needs)
+    (λ c. search needs)
+    (λ c. search needs)
+    (λ c. search needs)
+    (λ c. search needs)
+    loop-again
+    (λ c κs. search needs)
+    (λ c κs. search needs)
+    returns-2
+    returns-3)

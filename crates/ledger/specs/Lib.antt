@@ -1,0 +1,5 @@
+pub mod Ledgers
+pub mod Reports
+pub mod Posts
+pub mod Pages
+pub mod Steps

@@ -1,0 +1,64 @@
+-- The report that octets and a record number are (01 "Ledger", refusals 1 to 11, 17 and 13).
+use mathlib.Core.Bool.{Bool, false, _&&_}
+use mathlib.Core.List.{List, [], _∷_}
+use Prim.Native.Nat.{ℕ, zero, suc, _+_, _-_}
+use lib.Dec.{eqb}
+use lib.ListN.{getD}
+use Rattle.octets.specs.Choice.{pick}
+use Rattle.octets.specs.Refusals.{notStatistics}
+use Rattle.blocks.specs.Marks.{flagsOf}
+use Rattle.blocks.specs.Statistics.{statisticsOf, entryOf}
+use Rattle.blocks.specs.Steps.{stepBy, stepOf}
+use Rattle.blocks.specs.Walks.{readOf}
+use Rattle.blocks.specs.declared.record.Record.{Record}
+use Rattle.blocks.specs.declared.cursor.Step.{Step}
+use Rattle.blocks.specs.declared.cursor.Step.the-variants as step
+use Rattle.blocks.specs.declared.walk.Reading.{Reading}
+use Rattle.blocks.specs.declared.walk.Reading.the-variants as reading
+use Rattle.rows.specs.Rows.{Entry, keyOf}
+use Rattle.rows.specs.Posting.{Report, refused, counts}
+
+abbrev marked : Record → ℕ → Bool
+marked t f = getD (flagsOf 32 (t .marks)) (f - 1) false
+
+-- a statistics report: category 23 type 3, with 010 (field 1), 015 (field 3) and 120 (field 9)
+abbrev pub isStatistics : Record → Bool
+isStatistics t = eqb (t .category) 23 && eqb (t .«message_type») 3 && marked t 1 && marked t 3 && marked t 9
+
+-- the keys of a record's counters begin here: that of TYPE 0
+abbrev pub firstKey : Record → ℕ
+firstKey t = keyOf (statisticsOf t .sac) (statisticsOf t .sic) (statisticsOf t .service) 0
+
+-- n entries from the k-th on, of those that lie from an offset, with the key of TYPE 0 and the record's time
+module _ (s : List ℕ) (first time at : ℕ) where
+  abbrev pub entryAt : ℕ → Entry
+  entryAt k = record { key = first + entryOf s at k .typ; time = time; reference = entryOf s at k .reference; count = entryOf s at k .count }
+
+  unfoldable pub entriesFrom : ℕ → ℕ → List Entry
+  entriesFrom zero k = []
+  entriesFrom (suc n) k = entryAt k ∷ entriesFrom n (suc k)
+
+-- the entries of a record
+abbrev pub entriesOf : List ℕ → Record → List Entry
+entriesOf s t = entriesFrom s (firstKey t) (t .time .0) (statisticsOf t .at) (statisticsOf t .count) 0
+
+-- the report that a typed record is
+unfoldable pub reportIn : List ℕ → Record → Report
+reportIn s t = pick (isStatistics t) (counts (entriesOf s t)) (refused notStatistics)
+
+-- record k of a block: k steps from a start, and one that hands it out; 17 at LEN
+unfoldable pub stepAt : List ℕ → ℕ → ℕ → Step
+stepAt s zero start = stepOf s start
+stepAt s (suc k) start = stepBy Step.Refused (λ t next. stepAt s k next) s start
+
+abbrev pub reportAt : List ℕ → Step → Report
+reportAt s (step.Refused n at) = refused n
+reportAt s (step.Taken t next) = reportIn s t
+
+-- the reader's refusals of the whole block first
+abbrev pub reportBy : List ℕ → ℕ → Reading → Report
+reportBy s k (reading.Refused n at) = refused n
+reportBy s k (reading.Accepted len count) = reportAt s (stepAt s k 3)
+
+unfoldable pub reportOf : List ℕ → ℕ → Report
+reportOf s k = reportBy s k (readOf s)

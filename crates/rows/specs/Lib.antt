@@ -1,0 +1,5 @@
+pub mod Rows
+pub mod Posting
+pub mod Order
+pub mod Claims
+pub mod Examples

@@ -1,0 +1,86 @@
+// The ledger layer's cases. A ledger is given as octets, so that one that breaks the rules can be said too: the row count (8), then 256
+// places of key (4), life count (8) and reading (4).
+use crate::case::unknown;
+use ledger::Answer;
+use ledger::Ledger;
+use ledger::page::load;
+use ledger::post::post;
+use text::more;
+use text::number;
+
+// The octets of a ledger.
+const SIZE: usize = 4104;
+
+// The number of four octets, and of eight; past the end there are zeros.
+fn four(s: &[u8], at: usize) -> u32 {
+    if s.len() < at {
+        return 0;
+    }
+    octets::read4(s, at)
+}
+
+fn eight(s: &[u8], at: usize) -> u64 {
+    if s.len() < at {
+        return 0;
+    }
+    octets::read8(s, at)
+}
+
+pub(crate) fn ledger_of(s: &[u8]) -> Ledger {
+    let mut keys = [0u32; 256];
+    let mut lives = [0u64; 256];
+    let mut readings = [0u32; 256];
+    let mut i: usize = 0;
+    while i < 256 {
+        let at = 8 + 16 * i;
+        keys[i] = four(s, at);
+        lives[i] = eight(s, at + 4);
+        readings[i] = four(s, at + 12);
+        i += 1;
+    }
+    Ledger {
+        count: eight(s, 0) as usize,
+        keys,
+        lives,
+        readings,
+    }
+}
+
+// Each place that is not all zero: its number from 0, key, life count and reading.
+fn say_places(text: &mut [u8], held: usize, ledger: Ledger) -> usize {
+    let mut at = held;
+    let mut i: usize = 0;
+    while i < 256 {
+        let key = ledger.keys[i] as u64;
+        let life = ledger.lives[i];
+        let reading = ledger.readings[i] as u64;
+        if (key > 0) | (life > 0) | (reading > 0) {
+            let values = [i as u64, key, life, reading];
+            at = more(text, at, &values);
+        }
+        i += 1;
+    }
+    at
+}
+
+// Number, row count and places.
+fn say_ledger(text: &mut [u8], held: usize, answer: Answer) -> usize {
+    let ledger = answer.ledger;
+    let at = number(text, held, answer.number as u64);
+    let values = [ledger.count as u64];
+    let end = more(text, at, &values);
+    say_places(text, end, ledger)
+}
+
+// A record of a block posted: the ledger's octets, then the block's.
+pub(crate) fn say_posting(s: &[u8], text: &mut [u8], held: usize, k: usize) -> usize {
+    if s.len() < SIZE {
+        return unknown(text, held);
+    }
+    let ledger = ledger_of(&s[..SIZE]);
+    say_ledger(text, held, post(ledger, &s[SIZE..], k))
+}
+
+pub(crate) fn say_loading(s: &[u8], text: &mut [u8], held: usize) -> usize {
+    say_ledger(text, held, load(s))
+}
