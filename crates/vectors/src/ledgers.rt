@@ -46,18 +46,27 @@ pub(crate) fn ledger_of(s: &[u8]) -> Ledger {
     }
 }
 
-// Each place that is not all zero: its number from 0, key, life count and reading.
+// A place that is not all zero: its number from 0, key, life count and reading.
+fn say_place(text: &mut [u8], held: usize, i: usize, key: u32, life: u64, reading: u32) -> usize {
+    if (key == 0) & (life == 0) & (reading == 0) {
+        return held;
+    }
+    let values = [i as u64, key as u64, life, reading as u64];
+    more(text, held, &values)
+}
+
 fn say_places(text: &mut [u8], held: usize, ledger: Ledger) -> usize {
     let mut at = held;
     let mut i: usize = 0;
     while i < 256 {
-        let key = ledger.keys[i] as u64;
-        let life = ledger.lives[i];
-        let reading = ledger.readings[i] as u64;
-        if (key > 0) | (life > 0) | (reading > 0) {
-            let values = [i as u64, key, life, reading];
-            at = more(text, at, &values);
-        }
+        at = say_place(
+            text,
+            at,
+            i,
+            ledger.keys[i],
+            ledger.lives[i],
+            ledger.readings[i],
+        );
         i += 1;
     }
     at
@@ -77,7 +86,7 @@ pub(crate) fn say_posting(s: &[u8], text: &mut [u8], held: usize, k: usize) -> u
     if s.len() < SIZE {
         return unknown(text, held);
     }
-    let ledger = ledger_of(&s[..SIZE]);
+    let ledger = ledger_of(s);
     say_ledger(text, held, post(ledger, &s[SIZE..], k))
 }
 
