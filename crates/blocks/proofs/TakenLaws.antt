@@ -1,27 +1,35 @@
--- What every record has that a step hands out: SID and STYP have four bits, and its entries lie in the octets. Assumes nothing.
-use mathlib.Core.Path.{_≡_, sym, _∙_, subst}
+-- What every record has that a step hands out, four bits of SID and of STYP and entries that lie in the octets; and the steps of an accepted block.
+-- Assumes nothing.
+use mathlib.Core.Path.{_≡_, refl, sym, ap, _∙_, subst}
 use mathlib.Core.Bool.{true}
 use mathlib.Core.List.{List}
 use Prim.Native.Nat.{ℕ, _+_, _*_, _-_, _<_, _≤_}
 use native.Mathlib.Nat.{mod-lt}
 use native.Mathlib.Omega.{arith}
-use lib.ListN.{length}
+use lib.ListN.{length, getD}
 use Rattle.octets.specs.Numbers.{Octets}
+use Rattle.octets.specs.Refusals.{noSuch}
 use Rattle.layouts.specs.Groups.{values}
 use Rattle.layouts.specs.Formats.{Answer, refused, got}
 use Rattle.layouts.specs.Offsets.{traceAt}
 use Rattle.layouts.specs.Layouts.{format}
 use Rattle.layouts.specs.Categories.{category, known}
 use Rattle.items.specs.declared.typed.Service.{Service}
+use Rattle.blocks.specs.Headers.{headerOf}
 use Rattle.blocks.specs.Offsets.{specsAt}
 use Rattle.blocks.specs.Typed.{typedOf}
 use Rattle.blocks.specs.Steps.{typedBehind, takeOf, stepOf, entryGroupOf}
+use Rattle.blocks.specs.Walks.{readOf}
+use Rattle.blocks.specs.declared.header.Head.{Head}
 use Rattle.blocks.specs.declared.record.Record.{Record}
 use Rattle.blocks.specs.declared.cursor.Cursor.{Cursor}
 use Rattle.blocks.specs.declared.cursor.Step.{Step}
+use Rattle.blocks.specs.declared.walk.Reading.{Reading}
 use Rattle.blocks.proofs.HeaderLaws.{header-good}
 use Rattle.blocks.proofs.TypedLaws.{typed-good, entries-within}
-use Rattle.blocks.proofs.StepLaws.{Taking, take-took, step-took}
+use Rattle.blocks.proofs.ReadSteps.{record-within}
+use Rattle.blocks.proofs.StepLaws.{Taking, take-took, step-took, step-inside}
+use Rattle.blocks.proofs.BoundaryLaws.{read-filled, step-end}
 
 -- four bits each
 abbrev pub Narrow : Service → Type 0
@@ -69,3 +77,31 @@ step-narrow s start t c o h =
     let w = step-took s start t c (sym h) in
     let g = header-good s (w .cat) (w .len) (w .head) in
     taking-narrow s (w .len) (w .cat) start t (c .at) (g .fits) (g .known) o (w .taking)
+
+-- An accepted block
+
+module _ (s : List ℕ) (len n : ℕ) (o : Octets s) (h : readOf s ≡ Reading.Accepted len n) where
+  -- its header is good, with the first octet as its category
+  pub accepted-head : headerOf s ≡ Head.Good (getD s 0 0) len
+  accepted-head =
+      let (cat, rs, head, j, count, is) = read-filled s len n o h in
+      head ∙ ap (λ c. Head.Good c len) (header-good s cat len head .is-cat)
+
+  -- what `take` asks of an offset below LEN
+  pub accepted-inside : (at : ℕ) → at < len → Inside s len (getD s 0 0) at
+  accepted-inside at l = let g = header-good s (getD s 0 0) len accepted-head in (l, g .fits, g .known)
+
+  -- inside the block `take` is a step
+  pub accepted-step : (at : ℕ) → 3 ≤ at → at < len → takeOf s len (getD s 0 0) at ≡ stepOf s at
+  accepted-step at low more = step-inside s at (getD s 0 0) len (sym accepted-head) low more _ refl
+
+  -- from LEN on a step takes no record
+  pub accepted-end : (at : ℕ) → len ≤ at → stepOf s at ≡ Step.Refused noSuch 0
+  accepted-end = step-end s (getD s 0 0) len accepted-head
+
+  -- a step that takes a record starts below LEN, and goes forward
+  pub accepted-forward : (at : ℕ) (t : Record) (c : Cursor) → stepOf s at ≡ Step.Taken t c → (at < len) × (at < c .at)
+  accepted-forward at t c e =
+      let w = step-took s at t c e in
+      let same : w .len ≡ len = cc (w .head, accepted-head) in
+      (omega (arith, w .more), record-within s (w .len) (category (w .cat)) o at (c .at) (w .taking .r) (w .taking .is) .0)

@@ -64,14 +64,14 @@ fn has_room(
     if count + n <= 256 {
         return true;
     }
-    let mut seen = [false; 256];
+    let mut counted = [false; 256];
     let mut rows = count;
     let mut i: usize = 0;
     while i < n {
         let entry = counter(s, at, i);
         let typ = entry.typ as usize;
-        if !seen[typ] {
-            seen[typ] = true;
+        if !counted[typ] {
+            counted[typ] = true;
             let row = held(count, keys, lives, readings, first + entry.typ as u32);
             rows += row.new;
         }

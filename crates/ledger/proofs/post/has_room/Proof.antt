@@ -10,11 +10,11 @@ use Rattle.ledger.proofs.post.has_room.Statement.{statement}
 use Rattle.ledger.proofs.post.has_room.Tie as tie
 
 abbrev Inv-loop : tie.InvT-loop
-Inv-loop count keys lives readings s first at n seen₀ rows₀ i₀ seen rows i =
-    steps.CountLoop (columns count keys lives readings) s first at n seen rows i
+Inv-loop count keys lives readings s first at n counted₀ rows₀ i₀ counted rows i =
+    steps.CountLoop (columns count keys lives readings) s first at n counted rows i
 
 abbrev μ-loop : tie.MeasureT-loop
-μ-loop count keys lives readings s first at n seen₀ rows₀ i₀ seen rows i = n - i
+μ-loop count keys lives readings s first at n counted₀ rows₀ i₀ counted rows i = n - i
 
 pub has-room-spec : {M : Type 1} → statement M
 has-room-spec =

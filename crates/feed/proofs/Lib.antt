@@ -1,0 +1,9 @@
+pub mod TotalLaws
+pub mod NextLaws
+pub mod KeptRuns
+pub mod BlockReports
+pub mod BlockSteps
+pub mod RunSteps
+pub mod BlockTheorems
+pub mod NextTheorems
+pub mod RunTheorems

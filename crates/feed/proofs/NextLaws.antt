@@ -1,0 +1,81 @@
+-- What octets begin with, by the case that a branch of the code is in; and what is known of a block. Assumes nothing.
+use mathlib.Core.Bool.{Bool, true, false}
+use mathlib.Core.List.{List}
+use mathlib.Core.Path.{_≡_, refl, sym, ap, _∙_, subst}
+use Prim.Native.Nat.{ℕ, _≤_, _<_}
+use borrow.Author.Tests.{ltb-false, lt-ltb, le-ltb, eq-eqb, ne-eqb}
+use lib.Dec.{ltb, eqb}
+use lib.ListN.{length}
+use Rattle.octets.specs.Numbers.{Octets}
+use Rattle.blocks.specs.Walks.{readOf}
+use Rattle.blocks.specs.declared.walk.Reading.{Reading}
+use Rattle.blocks.specs.declared.walk.Reading.the-variants as reading
+use Rattle.blocks.proofs.HeaderLaws.{header-good}
+use Rattle.blocks.proofs.TakenLaws.{accepted-head}
+use Rattle.rows.proofs.Cases.{test}
+use Rattle.feed.specs.Blocks.{lenOf, judged, nextOf}
+use Rattle.feed.specs.declared.block.Next.{Next}
+use Rattle.feed.specs.declared.block.Next.the-variants as next
+
+module _ (s : List ℕ) (over : Bool) where
+  -- fewer than 3 octets
+  module _ (short : length s < 3) where
+    pub next-few : over ≡ false → Next.More ≡ nextOf s over
+    unfolding nextOf
+    next-few e = rw (lt-ltb (length s) 3 short, e)
+
+    pub next-ended : over ≡ true → length s ≡ 0 → Next.Ended ≡ nextOf s over
+    unfolding nextOf
+    next-ended e z = rw (lt-ltb (length s) 3 short, e, eq-eqb (length s) 0 z)
+
+    pub next-cut : over ≡ true → (length s ≡ 0 → ⊥) → Next.Stopped ≡ nextOf s over
+    unfolding nextOf
+    next-cut e z = rw (lt-ltb (length s) 3 short, e, ne-eqb (length s) 0 z)
+
+  -- LEN is there
+  module _ (long : 3 ≤ length s) (len : ℕ) (is : len ≡ lenOf s) where
+    pub next-low : len < 4 → Next.Stopped ≡ nextOf s over
+    unfolding nextOf
+    next-low h = rw (le-ltb (length s) 3 long, ← is, lt-ltb len 4 h)
+
+    module _ (least : 4 ≤ len) where
+      pub next-stopped : length s < len → over ≡ true → Next.Stopped ≡ nextOf s over
+      unfolding nextOf
+      next-stopped h e = rw (le-ltb (length s) 3 long, ← is, le-ltb len 4 least, lt-ltb (length s) len h, e)
+
+      pub next-more : length s < len → over ≡ false → Next.More ≡ nextOf s over
+      unfolding nextOf
+      next-more h e = rw (le-ltb (length s) 3 long, ← is, le-ltb len 4 least, lt-ltb (length s) len h, e)
+
+      pub next-judged : len ≤ length s → (r : Reading) → r ≡ readOf s → judged len r ≡ nextOf s over
+      unfolding nextOf
+      next-judged h r e = rw (le-ltb (length s) 3 long, ← is, le-ltb len 4 least, le-ltb (length s) len h, ← e)
+
+  -- a block, or none
+  next-cases : (P : Next → Type 0) → P Next.Ended → P Next.Stopped → P Next.More
+      → (lenOf s ≤ length s → P (judged (lenOf s) (readOf s))) → P (nextOf s over)
+  unfolding nextOf
+  next-cases P ended stopped more block =
+      test (ltb (length s) 3)
+      (λ a. rw a (test over (λ b. rw b (test (eqb (length s) 0) (λ z. rw z ended) (λ z. rw z stopped))) (λ b. rw b more)))
+      (λ a. rw a (test (ltb (lenOf s) 4) (λ b. rw b stopped)
+      (λ b. rw b (test (ltb (length s) (lenOf s)) (λ d. rw d (test over (λ e. rw e stopped) (λ e. rw e more)))
+      (λ d. rw d (block (ltb-false (length s) (lenOf s) d)))))))
+
+  -- what is known of a block: its octets are there, and reading accepts it where it is said to
+  abbrev pub Block : Next → Type 0
+  Block next.Ended = Unit {0}
+  Block next.Stopped = Unit {0}
+  Block next.More = Unit {0}
+  Block (next.Skipped l) = l ≤ length s
+  Block (next.Accepted l) = (l ≤ length s) × ((n : ℕ) × (readOf s ≡ Reading.Accepted l n))
+
+  -- by what reading says
+  block-judged : Octets s → lenOf s ≤ length s → (r : Reading) → readOf s ≡ r → Block (judged (lenOf s) r)
+  block-judged o h (reading.Refused n at) e = h
+  block-judged o h (reading.Accepted l n) e =
+      let g = header-good s _ l (accepted-head s l n o e) in (h, (n, e ∙ ap (λ x. Reading.Accepted x n) (g .is-len)))
+
+  -- so of what comes next
+  pub next-block : Octets s → (x : Next) → x ≡ nextOf s over → Block x
+  next-block o x e = subst Block (sym e) (next-cases Block tt tt tt (λ h. block-judged o h (readOf s) refl))

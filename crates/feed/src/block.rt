@@ -1,0 +1,93 @@
+// The next block of a feed, and its records posted.
+ghost use mathlib.Core.Path.{_≡_};
+ghost use Prim.Native.Nat.{ℕ};
+ghost use Rattle.blocks.specs.Walks.{readOf};
+ghost use Rattle.blocks.specs.declared.walk.Reading.{Reading};
+ghost use Rattle.rows.specs.Rows.{addUp};
+ghost use Rattle.rows.specs.Posting.{answers, after};
+ghost use Rattle.ledger.specs.Ledgers.{columns, rowsOf, ledgerOf};
+ghost use Rattle.ledger.specs.Steps.{Kept};
+ghost use Rattle.feed.specs.Blocks.{nextOf, reportsOf};
+ghost use Rattle.feed.specs.Totals.{acceptedOne};
+use crate::totals::Totals;
+use crate::totals::counted;
+use crate::totals::with_accepted;
+use blocks::cursor::Step;
+use blocks::cursor::take;
+use blocks::walk::Reading;
+use blocks::walk::read;
+use ledger::post::post_record;
+
+// What the octets at hand begin with: an accepted block and its LEN, a refused one to skip by LEN; or the run has ended, stops, or needs more octets.
+pub enum Next {
+    Accepted(usize),
+    Skipped(usize),
+    Ended,
+    Stopped,
+    More,
+}
+
+// What the octets at hand begin with.
+pub fn next_block(s: &[u8], is_over: bool) -> Next
+    ensures { λ r. ⌜ r ≡ nextOf (now (s .entry)) «is_over» ⌝ }
+{
+    let size = s.len();
+    if size < 3 {
+        if !is_over {
+            return Next::More;
+        }
+        if size == 0 {
+            return Next::Ended;
+        }
+        return Next::Stopped;
+    }
+    let len = octets::read2(s, 1) as usize;
+    if len < 4 {
+        return Next::Stopped;
+    }
+    if size < len {
+        if is_over {
+            return Next::Stopped;
+        }
+        return Next::More;
+    }
+    let reading = read(s);
+    match reading {
+        Reading::Accepted(_, _) => Next::Accepted(len),
+        Reading::Refused(_, _) => Next::Skipped(len),
+    }
+}
+
+// Posts the records of an accepted block of LEN octets, along its steps. For `run`, and for callers that have seen the block accepted.
+pub fn post_block(
+    count: &mut usize,
+    keys: &mut [u32; 256],
+    lives: &mut [u64; 256],
+    readings: &mut [u32; 256],
+    s: &[u8],
+    len: usize,
+    totals: Totals,
+) -> Totals
+    requires { ⌜ Kept (columns (now count) (now keys) (now lives) (now readings)) × ((n : ℕ) × (readOf (now s) ≡ Reading.Accepted len n)) ⌝ }
+    ensures { λ r. ⌜ (columns (now (count .exit)) (now (keys .exit)) (now (lives .exit)) (now (readings .exit))
+        ≡ ledgerOf (after addUp (rowsOf (columns (now (count .entry)) (now (keys .entry)) (now (lives .entry)) (now (readings .entry)))) (reportsOf (now (s .entry)))))
+        × (r ≡ acceptedOne totals (answers addUp (rowsOf (columns (now (count .entry)) (now (keys .entry)) (now (lives .entry)) (now (readings .entry)))) (reportsOf (now (s .entry))))) ⌝ }
+{
+    let number = s[0];
+    let mut after = totals;
+    let mut at: usize = 3;
+    while at < len {
+        let step = take(s, len, number, at);
+        match step {
+            Step::Refused(_, _) => {
+                at = len;
+            }
+            Step::Taken(record, cursor) => {
+                let answer = post_record(count, keys, lives, readings, s, record);
+                after = counted(after, answer);
+                at = cursor.at;
+            }
+        }
+    }
+    with_accepted(after)
+}

@@ -1,0 +1,4 @@
+// One pass over a feed: the next block, its records posted, the totals.
+pub mod block;
+pub mod run;
+pub mod totals;
