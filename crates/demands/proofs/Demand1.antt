@@ -11,7 +11,6 @@ use Rattle.octets.specs.Numbers.{Octets}
 use Rattle.octets.specs.Outcomes.{no, puts}
 use Rattle.octets.specs.Refusals.{rulesBroken}
 use Rattle.rows.proofs.Cases.{test}
-use Rattle.layouts.specs.Formats.{refused}
 use Rattle.layouts.specs.Categories.{category}
 use Rattle.blocks.specs.Boundaries.{Joined, Full, Stopped}
 use Rattle.blocks.specs.Headers.{headerOf}

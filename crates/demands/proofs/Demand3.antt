@@ -10,12 +10,14 @@ use borrow.Author.Tests.{ltb-true}
 use lib.Dec.{ltb}
 use lib.ListN.{length, getD, length-map}
 use Rattle.octets.specs.Choice.{pick}
+use Rattle.octets.specs.Numbers.{Octets}
+use Rattle.blocks.specs.declared.walk.Reading.{Reading}
 use Rattle.rows.specs.Rows.{rowOf, lifeOf, addUp}
 use Rattle.rows.specs.Posting.{refused, entries, names, answers, after, ofKey, tally, accepted}
-use Rattle.rows.specs.Order.{times}
+use Rattle.rows.specs.Order.{times, upto}
 use Rattle.rows.specs.Order as rows
 use Rattle.rows.proofs.Cases.{test}
-use Rattle.rows.proofs.Numbers.{map-same, upto, times-upto, place-upto}
+use Rattle.rows.proofs.Numbers.{map-same, times-upto, place-upto}
 use Rattle.rows.proofs.Theorems.{adding-key, any-order, row-rule}
 use Rattle.ledger.specs.Ledgers.{answer, rowsOf, ledgerOf, keepsRules, Held}
 use Rattle.ledger.specs.Posts.{postOf}
@@ -24,8 +26,10 @@ use Rattle.ledger.specs.declared.Answer.{Answer}
 use Rattle.ledger.specs.declared.Ledger.{Ledger}
 use Rattle.ledger.proofs.RuleLaws.{kept-rules, rules-kept}
 use Rattle.ledger.proofs.PostTheorems.{posted-is, posted-rows, posted-kept, posted-grows}
-use Rattle.demands.specs.Contracts.{Posts}
-use Rattle.demands.specs.Runs.{Sent, nothing, Run, report, Names, Room, Order, inOrder, answersInOrder}
+use Rattle.feed.specs.Blocks.{reportsOf}
+use Rattle.feed.proofs.BlockTheorems.{block-numbers}
+use Rattle.demands.specs.Contracts.{Reads, Posts}
+use Rattle.demands.specs.Runs.{Sent, nothing, numbered, Run, report, Names, Room, Order, inOrder, answersInOrder}
 
 -- A run of posts is a run of its reports over the ledger's rows
 
@@ -129,3 +133,13 @@ own-order xs = record {
 pub names-none : (x : Sent) (n : ℕ) → report x ≡ refused n → (k : ℕ) → Names x k → ⊥
 unfolding names
 names-none x n e k h = false≢true (subst (λ r. names k (entries r) ≡ true) e h)
+
+-- All records of an accepted block, posted along its steps (`feed`): the ledger and the answers are those of posting record 0, 1, 2 .. by number.
+pub block-posted : (l : Ledger) → Held l → keepsRules l ≡ true → (s : List ℕ) (len n : ℕ) → Octets s → Reads s (Reading.Accepted len n)
+    → (ns : List ℕ) (end : Ledger) → Run l (numbered s n) ns end
+    → (ns ≡ answers addUp (rowsOf l) (reportsOf s)) × (end ≡ ledgerOf (after addUp (rowsOf l) (reportsOf s)))
+block-posted l held keeps s len n o h ns end r =
+    let a = ran l end (numbered s n) ns (kept-rules l held keeps) r in
+    let same : map report (numbered s n) ≡ reportsOf s
+    = map-twice report (λ k. record { octets = s; number = k }) (upto n) ∙ sym (block-numbers s len n o (sym (h .0))) in
+    (a .told ∙ ap (answers addUp (rowsOf l)) same, a .kept .rest ∙ ap ledgerOf (a .left ∙ ap (after addUp (rowsOf l)) same))

@@ -2,9 +2,8 @@
 use mathlib.Core.Bool.{Bool, true, false}
 use mathlib.Core.List.{List}
 use mathlib.Core.Path.{_≡_, refl, ap, sym, _∙_}
-use Prim.Native.Nat.{ℕ, _≤_, _<_}
-use native.Mathlib.Omega.{arith}
-use borrow.Author.Tests.{ltb-true, ltb-false, lt-ltb, le-ltb}
+use Prim.Native.Nat.{ℕ}
+use borrow.Author.Tests.{ltb-true, ltb-false}
 use lib.Dec.{ltb}
 use lib.ListN.{getD}
 use Rattle.octets.specs.Numbers.{Octets}
@@ -20,7 +19,7 @@ use Rattle.rows.specs.Posting.{Report, Posted, rowsFor, passes, postRows, refus
 use Rattle.rows.proofs.Cases.{test}
 use Rattle.ledger.specs.Ledgers.{answer, rowsOf, keepsRules}
 use Rattle.ledger.specs.Posts.{postOf}
-use Rattle.ledger.specs.Reports.{isStatistics, entriesOf, reportIn, reportAt, reportBy, reportOf, stepAt}
+use Rattle.ledger.specs.Reports.{isStatistics, entriesOf, reportIn, reportAt, reportBy, reportOf}
 use Rattle.ledger.specs.declared.Answer.{Answer}
 use Rattle.ledger.specs.declared.Ledger.{Ledger}
 use Rattle.ledger.proofs.RecordNumbers.{number-past, number-taken}

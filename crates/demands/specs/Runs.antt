@@ -7,7 +7,7 @@ use lib.Dec.{ltb}
 use lib.ListN.{length, getD}
 use Rattle.octets.specs.Choice.{pick}
 use Rattle.rows.specs.Posting.{Report, entries, allEntries, names, rowsFor}
-use Rattle.rows.specs.Order.{times, place}
+use Rattle.rows.specs.Order.{times, place, upto}
 use Rattle.ledger.specs.Ledgers.{answer, rowsOf}
 use Rattle.ledger.specs.Reports.{reportOf}
 use Rattle.ledger.specs.declared.Ledger.{Ledger}
@@ -20,6 +20,10 @@ pub record Sent : Type 0 where
 
 abbrev pub nothing : Sent
 nothing = record { octets = []; number = 0 }
+
+-- the first n records of octets, by number
+abbrev pub numbered : List ℕ → ℕ → List Sent
+numbered s n = map (λ k. record { octets = s; number = k }) (upto n)
 
 -- A run: each is posted to the ledger that the one before left. The answers in turn, and the ledger at the end.
 abbrev pub Run : Ledger → List Sent → List ℕ → Ledger → Type 0

@@ -16,8 +16,8 @@ use Rattle.blocks.specs.declared.walk.Reading.{Reading}
 use Rattle.blocks.proofs.HeaderLaws.{header-good}
 use Rattle.blocks.proofs.BoundaryLaws.{read-filled, visited, step-end}
 use Rattle.blocks.proofs.StepLaws.{ofStep, by-step}
+use Rattle.rows.specs.Order.{upto}
 use Rattle.rows.specs.Posting.{Report}
-use Rattle.rows.proofs.Numbers.{upto}
 use Rattle.ledger.specs.Reports.{reportIn, reportAt, stepAt, reportOf}
 use Rattle.ledger.proofs.ReportLaws.{at-more}
 use Rattle.feed.specs.Blocks.{reportsFrom, reportsOf, lenOf}

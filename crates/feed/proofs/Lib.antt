@@ -7,3 +7,4 @@ pub mod RunSteps
 pub mod BlockTheorems
 pub mod NextTheorems
 pub mod RunTheorems
+pub mod FeedTheorems

@@ -3,19 +3,31 @@ use mathlib.Core.Bool.{Bool, true, false}
 use mathlib.Core.List.{List}
 use mathlib.Core.Path.{_≡_, refl, sym, ap, _∙_, subst}
 use Prim.Native.Nat.{ℕ, _≤_, _<_}
-use borrow.Author.Tests.{ltb-false, lt-ltb, le-ltb, eq-eqb, ne-eqb}
+use borrow.Author.Tests.{ltb-true, ltb-false, lt-ltb, le-ltb, eq-eqb, ne-eqb}
 use lib.Dec.{ltb, eqb}
 use lib.ListN.{length}
+use Rattle.octets.specs.Choice.{pick}
 use Rattle.octets.specs.Numbers.{Octets}
 use Rattle.blocks.specs.Walks.{readOf}
 use Rattle.blocks.specs.declared.walk.Reading.{Reading}
 use Rattle.blocks.specs.declared.walk.Reading.the-variants as reading
 use Rattle.blocks.proofs.HeaderLaws.{header-good}
 use Rattle.blocks.proofs.TakenLaws.{accepted-head}
-use Rattle.rows.proofs.Cases.{test}
 use Rattle.feed.specs.Blocks.{lenOf, judged, nextOf}
 use Rattle.feed.specs.declared.block.Next.{Next}
 use Rattle.feed.specs.declared.block.Next.the-variants as next
+
+-- The cases
+
+pub choose : {A : Type 0} (P : A → Type 0) (b : Bool) {x y : A} → (b ≡ true → P x) → (b ≡ false → P y) → P (pick b x y)
+choose P true f g = f refl
+choose P false f g = g refl
+
+-- LEN octets are there, and LEN is 4 at least
+pub record Whole (s : List ℕ) (len : ℕ) : Type 0 where
+  pub is-len : len ≡ lenOf s
+  pub least : 4 ≤ len
+  pub fits : len ≤ length s
 
 module _ (s : List ℕ) (over : Bool) where
   -- fewer than 3 octets
@@ -51,16 +63,18 @@ module _ (s : List ℕ) (over : Bool) where
       unfolding nextOf
       next-judged h r e = rw (le-ltb (length s) 3 long, ← is, le-ltb len 4 least, le-ltb (length s) len h, ← e)
 
-  -- a block, or none
-  next-cases : (P : Next → Type 0) → P Next.Ended → P Next.Stopped → P Next.More
-      → (lenOf s ≤ length s → P (judged (lenOf s) (readOf s))) → P (nextOf s over)
+  -- test after test
+  pub next-cases : (P : Next → Type 0)
+      → (length s < 3 → P (pick over (pick (eqb (length s) 0) Next.Ended Next.Stopped) Next.More))
+      → (3 ≤ length s → lenOf s < 4 → P Next.Stopped)
+      → (length s < lenOf s → P (pick over Next.Stopped Next.More))
+      → (Whole s (lenOf s) → P (judged (lenOf s) (readOf s))) → P (nextOf s over)
   unfolding nextOf
-  next-cases P ended stopped more block =
-      test (ltb (length s) 3)
-      (λ a. rw a (test over (λ b. rw b (test (eqb (length s) 0) (λ z. rw z ended) (λ z. rw z stopped))) (λ b. rw b more)))
-      (λ a. rw a (test (ltb (lenOf s) 4) (λ b. rw b stopped)
-      (λ b. rw b (test (ltb (length s) (lenOf s)) (λ d. rw d (test over (λ e. rw e stopped) (λ e. rw e more)))
-      (λ d. rw d (block (ltb-false (length s) (lenOf s) d)))))))
+  next-cases P short low cut whole =
+      choose P (ltb (length s) 3) (λ e. short (ltb-true (length s) 3 e)) λ e1.
+      choose P (ltb (lenOf s) 4) (λ e. low (ltb-false (length s) 3 e1) (ltb-true (lenOf s) 4 e)) λ e2.
+      choose P (ltb (length s) (lenOf s)) (λ e. cut (ltb-true (length s) (lenOf s) e)) λ e3.
+      whole (record { is-len = refl; least = ltb-false (lenOf s) 4 e2; fits = ltb-false (length s) (lenOf s) e3 })
 
   -- what is known of a block: its octets are there, and reading accepts it where it is said to
   abbrev pub Block : Next → Type 0
@@ -78,4 +92,7 @@ module _ (s : List ℕ) (over : Bool) where
 
   -- so of what comes next
   pub next-block : Octets s → (x : Next) → x ≡ nextOf s over → Block x
-  next-block o x e = subst Block (sym e) (next-cases Block tt tt tt (λ h. block-judged o h (readOf s) refl))
+  next-block o x e =
+      subst Block (sym e)
+      (next-cases Block (λ l. choose Block over (λ e. choose Block (eqb (length s) 0) (λ d. tt) (λ d. tt)) (λ e. tt)) (λ l h. tt)
+      (λ l. choose Block over (λ e. tt) (λ e. tt)) (λ w. block-judged o (w .fits) (readOf s) refl))

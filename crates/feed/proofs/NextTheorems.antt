@@ -5,7 +5,7 @@ use mathlib.Core.List.{List, [], _∷_, _++_}
 use mathlib.Core.Logic.{_⊎_, inl, inr}
 use Prim.Native.Nat.{ℕ, zero, suc, _+_, _*_, _≤_, _<_}
 use native.Mathlib.Omega.{arith}
-use borrow.Author.Tests.{ltb-true, ltb-false, lt-ltb, le-ltb}
+use borrow.Author.Tests.{ltb-true, ltb-false}
 use lib.Dec.{ltb, eqb}
 use lib.ListN.{length, getD, length-append, List·getD-append, List·getD-eq-default}
 use Rattle.octets.specs.Choice.{pick}
@@ -30,6 +30,7 @@ use Rattle.feed.specs.Blocks.{lenOf, judged, nextOf, reportsFrom, report
 use Rattle.feed.specs.Runs.{State, acceptedBlock}
 use Rattle.feed.specs.declared.block.Next.{Next}
 use Rattle.feed.specs.declared.block.Next.the-variants as next
+use Rattle.feed.proofs.NextLaws.{Whole, choose, next-cases, next-low, next-judged}
 use Rattle.feed.proofs.BlockTheorems.{reports-step}
 
 -- Octets with others behind them
@@ -55,43 +56,6 @@ module _ (s t : List ℕ) where
 
   long-more : length s ≤ length (s ++ t)
   long-more = rw length-append (omega arith)
-
--- The cases
-
-choose : {A : Type 0} (P : A → Type 0) (b : Bool) {x y : A} → (b ≡ true → P x) → (b ≡ false → P y) → P (pick b x y)
-choose P true f g = f refl
-choose P false f g = g refl
-
--- LEN octets are there, and LEN is 4 at least
-pub record Whole (s : List ℕ) (len : ℕ) : Type 0 where
-  pub is-len : len ≡ lenOf s
-  pub least : 4 ≤ len
-  pub fits : len ≤ length s
-
-module _ (s : List ℕ) (over : Bool) where
-  -- test after test
-  next-cases : (P : Next → Type 0)
-      → (length s < 3 → P (pick over (pick (eqb (length s) 0) Next.Ended Next.Stopped) Next.More))
-      → (3 ≤ length s → lenOf s < 4 → P Next.Stopped)
-      → (length s < lenOf s → P (pick over Next.Stopped Next.More))
-      → (Whole s (lenOf s) → P (judged (lenOf s) (readOf s))) → P (nextOf s over)
-  unfolding nextOf
-  next-cases P short low cut whole =
-      choose P (ltb (length s) 3) (λ e. short (ltb-true (length s) 3 e)) λ e1.
-      choose P (ltb (lenOf s) 4) (λ e. low (ltb-false (length s) 3 e1) (ltb-true (lenOf s) 4 e)) λ e2.
-      choose P (ltb (length s) (lenOf s)) (λ e. cut (ltb-true (length s) (lenOf s) e)) λ e3.
-      whole (record { is-len = refl; least = ltb-false (lenOf s) 4 e2; fits = ltb-false (length s) (lenOf s) e3 })
-
-  -- LEN below 4
-  next-low : 3 ≤ length s → lenOf s < 4 → nextOf s over ≡ Next.Stopped
-  unfolding nextOf
-  next-low l h = rw (le-ltb (length s) 3 l, lt-ltb (lenOf s) 4 h)
-
-  -- a block of which all octets are there
-  next-whole : (len : ℕ) → Whole s len → nextOf s over ≡ judged len (readOf s)
-  unfolding nextOf
-  next-whole len w =
-      rw (← w .is-len, le-ltb (length s) 3 (omega arith), le-ltb len 4 (w .least), le-ltb (length s) len (w .fits))
 
 module _ (s : List ℕ) where
   -- what each answer says
@@ -176,9 +140,10 @@ pub next-more : (s t : List ℕ) (over : Bool) → Octets (s ++ t) → (x : Next
 next-more s t over o x e n =
     next-cases s false (λ y. (y ≡ Next.More → ⊥) → nextOf (s ++ t) over ≡ y)
     (λ l m. absurd (m refl))
-    (λ l h m. next-low (s ++ t) over (omega (arith, long-more s t)) (rw (len-more s t l) h))
+    (λ l h m. sym (next-low (s ++ t) over (omega (arith, long-more s t)) (lenOf (s ++ t)) refl (rw (len-more s t l) h)))
     (λ l m. absurd (m refl))
-    (λ w m. next-whole (s ++ t) over (lenOf s) (whole-more s t (lenOf s) w) ∙ ap (judged (lenOf s)) (sym (read-more s t (lenOf s) w)))
+    (λ w m. let v = whole-more s t (lenOf s) w in
+    sym (next-judged (s ++ t) over (omega (arith, long-more s t)) (lenOf s) (v .is-len) (v .least) (v .fits) (readOf s) (read-more s t (lenOf s) w)))
     (λ m. n (sym e ∙ m))
     ∙ e
 

@@ -14,7 +14,8 @@ use Rattle.feed.specs.declared.run.Ending.{Ending}
 use Rattle.feed.specs.declared.run.Ending.the-variants as ending
 use Rattle.feed.specs.declared.block.Next.{Next}
 use Rattle.feed.specs.declared.block.Next.the-variants as next
-use Rattle.feed.proofs.NextTheorems.{Whole, next-whole-block, next-waits, never-ended, next-more, accepted-behind}
+use Rattle.feed.proofs.NextLaws.{Whole}
+use Rattle.feed.proofs.NextTheorems.{next-whole-block, next-waits, never-ended, next-more, accepted-behind}
 
 -- a block leaves less than there was
 rest-less : (s : List ℕ) (len n : ℕ) → Whole s len → length s < suc n → length (drop len s) < n

@@ -1,7 +1,7 @@
 -- What a post does to a ledger: the rows' laws, at the ledger. Assumes nothing.
-use mathlib.Core.Bool.{Bool, true, false}
+use mathlib.Core.Bool.{true, false}
 use mathlib.Core.List.{List}
-use mathlib.Core.Path.{_≡_, refl, ap, sym, _∙_, subst}
+use mathlib.Core.Path.{_≡_, ap, sym, _∙_, subst}
 use Prim.Native.Nat.{ℕ, _≤_}
 use native.Mathlib.Omega.{arith}
 use Rattle.octets.specs.Refusals.{rulesBroken}
@@ -10,7 +10,7 @@ use Rattle.rows.specs.Posting.{Posted, postRows}
 use Rattle.rows.proofs.Cases.{test}
 use Rattle.rows.proofs.Theorems.{all-or-nothing, never-falls, stays-good, adding-key, adding-grows, adding-under}
 use Rattle.ledger.specs.Ledgers.{answer, rowsOf, ledgerOf, keepsRules, Held}
-use Rattle.ledger.specs.Posts.{answerOf, postedTo, postOf}
+use Rattle.ledger.specs.Posts.{postOf}
 use Rattle.ledger.specs.Reports.{reportOf}
 use Rattle.ledger.specs.Steps.{Kept}
 use Rattle.ledger.specs.declared.Answer.{Answer}

@@ -3,7 +3,7 @@ use mathlib.Core.List.{List}
 use Prim.Native.Nat.{ℕ}
 use Rattle.octets.specs.Choice.{pick}
 use Rattle.octets.specs.Refusals.{rulesBroken}
-use Rattle.rows.specs.Rows.{Row, addUp}
+use Rattle.rows.specs.Rows.{addUp}
 use Rattle.rows.specs.Posting.{Report, Posted, postRows}
 use Rattle.ledger.specs.Ledgers.{answer, rowsOf, ledgerOf, keepsRules}
 use Rattle.ledger.specs.Reports.{reportOf}

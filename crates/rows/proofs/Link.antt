@@ -10,9 +10,9 @@ use borrow.Author.Tests.{le-ltb, eqb-true, eqb-false}
 use Rattle.rows.specs.Rows.{Row, Entry, rowOf, has, lifeOf}
 use Rattle.rows.specs.Posting.{Report, refused, counts, entries, allEntries, names, rowsFor, addEntry, addAll, passes, postRows}
 use Rattle.rows.specs.Posting.{answers, after, Sorted, Room}
-use Rattle.rows.specs.Order.{report, inOrder}
+use Rattle.rows.specs.Order.{report, inOrder, upto}
 use Rattle.rows.proofs.Cases.{test, either}
-use Rattle.rows.proofs.Numbers.{upto, read-upto}
+use Rattle.rows.proofs.Numbers.{read-upto}
 use Rattle.rows.proofs.Traces.{ends, says}
 use Rattle.rows.proofs.Rows.{no-longer, add-append, sorted-add, sorted-all, row-own, row-other, row-all, has-all, length-all}
 use Rattle.rows.proofs.Maps.{put, passesMap, tallies, number, next, goes, tells}

@@ -8,7 +8,7 @@ use lib.Dec.{ltb, eqb, leb·suc-suc, leb·zero, leb·suc-zero, eqb·zero-suc, eq
 use lib.ListN.{length, getD}
 use borrow.Author.Tests.{eq-eqb, ne-eqb, eqb-true, ltb-true}
 use Rattle.octets.specs.Choice.{pick}
-use Rattle.rows.specs.Order.{times, place}
+use Rattle.rows.specs.Order.{times, place, upto}
 use Rattle.rows.proofs.Cases.{test}
 
 -- A number t put in front of a list
@@ -85,11 +85,6 @@ place-other t i j (s ∷ l) n o h =
     (λ ni. let g = place-other t i j l n o (let k = rw (ni, nj) at h in omega arith) in rw (ni, nj) (omega arith)))))
 
 -- The numbers below n
-
--- the list 0 1 2 .. below n
-unfoldable pub upto : ℕ → List ℕ
-upto zero = []
-upto (suc n) = 0 ∷ map suc (upto n)
 
 -- a map over successors is a map of the successors' values
 map-suc : {A : Type 0} (g : ℕ → A) (l : List ℕ) → map g (map suc l) ≡ map (λ i. g (suc i)) l

@@ -8,10 +8,10 @@ use lib.ListN.{length}
 use borrow.Author.Tests.{leb-true}
 use Rattle.rows.specs.Rows.{Row, Entry, addUp, rowOf, lifeOf}
 use Rattle.rows.specs.Posting.{Report, entries, ofKey, Good}
-use Rattle.rows.specs.Order.{Order, inOrder, answersInOrder}
+use Rattle.rows.specs.Order.{Order, inOrder, answersInOrder, upto}
 use Rattle.rows.specs.Claims.{AnyOrder, RowRule, AllOrNothing, NeverFalls, StaysGood}
 use Rattle.rows.proofs.Cases.{test}
-use Rattle.rows.proofs.Numbers.{upto, times-upto, place-upto}
+use Rattle.rows.proofs.Numbers.{times-upto, place-upto}
 use Rattle.rows.proofs.Rows.{same-rows, row-all}
 use Rattle.rows.proofs.Maps.{map-order}
 use Rattle.rows.proofs.Posts.{posted-cases, post-cases, tally-grows, sorted-after, row-run, good-all}

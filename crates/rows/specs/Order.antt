@@ -2,7 +2,7 @@
 use mathlib.Core.Bool.{true}
 use mathlib.Core.List.{List, [], _∷_, map}
 use mathlib.Core.Path.{_≡_}
-use Prim.Native.Nat.{ℕ, suc, _<_}
+use Prim.Native.Nat.{ℕ, zero, suc, _<_}
 use lib.Dec.{ltb, eqb}
 use lib.ListN.{length, getD}
 use Rattle.octets.specs.Choice.{pick}
@@ -21,6 +21,11 @@ times i (s ∷ l) = pick (eqb s i) (suc (times i l)) (times i l)
 unfoldable pub place : ℕ → List ℕ → ℕ
 place i [] = 0
 place i (s ∷ l) = pick (eqb s i) 0 (suc (place i l))
+
+-- the numbers 0 1 2 .. below n
+unfoldable pub upto : ℕ → List ℕ
+upto zero = []
+upto (suc n) = 0 ∷ map suc (upto n)
 
 -- the i-th report of a run
 abbrev pub report : List Report → ℕ → Report

@@ -1,5 +1,5 @@
 -- Reports posted to rows (01 "Ledger"), by any rule that makes a row and an entry with its time into a row.
-use mathlib.Core.Bool.{Bool, true, false, _||_}
+use mathlib.Core.Bool.{Bool, false, _||_}
 use mathlib.Core.List.{List, [], _∷_, _++_}
 use mathlib.Core.Option.{Option, some}
 use Prim.Native.Nat.{ℕ, _+_, _≤_, _<_, _^_}

@@ -4,7 +4,7 @@ use mathlib.Core.List.{List, [], _∷_}
 use Prim.Native.Nat.{ℕ, suc, _+_, _≤_, _<_}
 use native.Mathlib.Omega.{arith}
 use lib.ListN.{length, set, length-append}
-use Rattle.octets.specs.Numbers.{octets, laid}
+use Rattle.octets.specs.Numbers.{laid}
 use Rattle.octets.proofs.Numbers.{length-octets}
 use Rattle.octets.proofs.Laying.{laid-laid, length-laid}
 use Rattle.layouts.specs.Categories.{category}
