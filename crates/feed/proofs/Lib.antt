@@ -8,3 +8,4 @@ pub mod BlockTheorems
 pub mod NextTheorems
 pub mod RunTheorems
 pub mod FeedTheorems
+pub mod RunEnds

@@ -17,3 +17,4 @@ pub mod PageLaws
 pub mod PageSteps
 pub mod PutSteps
 pub mod PageTheorems
+pub mod LentLaws

@@ -4,6 +4,7 @@ ghost use mathlib.Core.List.{[]};
 ghost use Rattle.ledger.specs.Ledgers.{ledgerOf};
 
 pub mod columns;
+pub mod lent;
 pub mod page;
 pub mod post;
 pub mod rules;

@@ -1,7 +1,7 @@
 // Digits, read and written.
 ghost use mathlib.Core.Path.{_≡_};
 ghost use Prim.Native.Nat.{_%_};
-ghost use Rattle.text.specs.Digits.{hexValue, withDigit};
+ghost use Rattle.text.specs.Digits.{hexValue, hexDigit, withDigit};
 
 // A decimal number so far; none where what was read is no digit, or too many.
 pub enum Number {
@@ -37,7 +37,7 @@ pub fn with_digit(n: usize, c: u8) -> Number
 
 // The hex digit of the low half of an octet, in upper case.
 pub fn hex_digit(octet: u8) -> u8
-    ensures { λ r. ⌜ hexValue r ≡ octet % 16 ⌝ }
+    ensures { λ r. ⌜ (r ≡ hexDigit octet) × (hexValue r ≡ octet % 16) ⌝ }
 {
     let half = octet % 16;
     if half < 10 {

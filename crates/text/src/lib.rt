@@ -1,5 +1,8 @@
 // Text that a program writes to standard output, gathered so that one call writes much.
 ghost use mathlib.Core.Path.{_≡_};
+ghost use mathlib.Core.List.{flatMap};
+ghost use Rattle.text.specs.Gathered.{gathered, putOne, putAll};
+ghost use Rattle.text.specs.Digits.{decimal, blankNumber, hexPair};
 use crate::digits::hex_digit;
 
 pub mod digits;
@@ -15,7 +18,9 @@ pub fn flush(text: &[u8], held: usize) -> usize
 }
 
 // One octet more.
-pub fn emit(text: &mut [u8], held: usize, octet: u8) -> usize {
+pub fn emit(text: &mut [u8], held: usize, octet: u8) -> usize
+    ensures { λ r. ⌜ gathered (now (text .exit)) r ≡ putOne (gathered (now (text .entry)) held) octet ⌝ }
+{
     let mut at = held;
     if text.len() <= held {
         at = flush(text, held);
@@ -28,7 +33,9 @@ pub fn emit(text: &mut [u8], held: usize, octet: u8) -> usize {
 }
 
 // Several octets more.
-pub fn emit_all(text: &mut [u8], held: usize, octets: &[u8]) -> usize {
+pub fn emit_all(text: &mut [u8], held: usize, octets: &[u8]) -> usize
+    ensures { λ r. ⌜ gathered (now (text .exit)) r ≡ putAll (gathered (now (text .entry)) held) (now (octets .entry)) ⌝ }
+{
     let mut at = held;
     let mut i: usize = 0;
     while i < octets.len() {
@@ -39,14 +46,18 @@ pub fn emit_all(text: &mut [u8], held: usize, octets: &[u8]) -> usize {
 }
 
 // A number in decimal.
-pub fn number(text: &mut [u8], held: usize, n: u64) -> usize {
+pub fn number(text: &mut [u8], held: usize, n: u64) -> usize
+    ensures { λ r. ⌜ gathered (now (text .exit)) r ≡ putAll (gathered (now (text .entry)) held) (decimal n) ⌝ }
+{
     let mut digits = [0u8; 20];
     let k = io::decimal(n, &mut digits);
     emit_all(text, held, &digits[..k])
 }
 
 // More numbers, with a blank before each.
-pub fn more(text: &mut [u8], held: usize, values: &[u64]) -> usize {
+pub fn more(text: &mut [u8], held: usize, values: &[u64]) -> usize
+    ensures { λ r. ⌜ gathered (now (text .exit)) r ≡ putAll (gathered (now (text .entry)) held) (flatMap blankNumber (now (values .entry))) ⌝ }
+{
     let mut at = held;
     let mut i: usize = 0;
     while i < values.len() {
@@ -58,7 +69,9 @@ pub fn more(text: &mut [u8], held: usize, values: &[u64]) -> usize {
 }
 
 // Octets, two digits each.
-pub fn hex(text: &mut [u8], held: usize, octets: &[u8]) -> usize {
+pub fn hex(text: &mut [u8], held: usize, octets: &[u8]) -> usize
+    ensures { λ r. ⌜ gathered (now (text .exit)) r ≡ putAll (gathered (now (text .entry)) held) (flatMap hexPair (now (octets .entry))) ⌝ }
+{
     let mut at = held;
     let mut i: usize = 0;
     while i < octets.len() {

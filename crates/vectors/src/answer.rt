@@ -1,6 +1,7 @@
 // The answers of the layers, as lines of numbers.
 use crate::case::Case;
 use crate::case::ENTRY;
+use crate::case::FEED;
 use crate::case::LOAD;
 use crate::case::Line;
 use crate::case::POST;
@@ -11,6 +12,7 @@ use crate::case::is_numbered;
 use crate::case::next;
 use crate::case::unknown;
 use crate::cells::say_record;
+use crate::feeds::say_feed;
 use crate::ledgers::say_loading;
 use crate::ledgers::say_posting;
 use crate::written::say_output;
@@ -92,6 +94,7 @@ fn say_answer(s: &[u8], text: &mut [u8], held: usize, case: Case) -> usize {
         }
         POST => say_posting(s, text, held, case.first),
         LOAD => say_loading(s, text, held),
+        FEED => say_feed(s, text, held, case.first),
         _ => say_output(s, text, held, case),
     }
 }

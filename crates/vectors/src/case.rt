@@ -22,6 +22,8 @@ pub const LOAD: u64 = 0x6C6F_6164;
 
 pub const STORE: u64 = 0x73_746F_7265;
 
+pub const FEED: u64 = 0x6665_6564;
+
 // No digit waits for the other half of its octet.
 const NO_HALF: u8 = 16;
 
@@ -93,6 +95,7 @@ fn numbers_of(operation: u64) -> usize {
         POST => 1,
         LOAD => 0,
         STORE => 1,
+        FEED => 1,
         _ => 38,
     }
 }

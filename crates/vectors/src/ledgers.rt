@@ -72,13 +72,18 @@ fn say_places(text: &mut [u8], held: usize, ledger: Ledger) -> usize {
     at
 }
 
+// Row count and places.
+pub(crate) fn say_rows(text: &mut [u8], held: usize, ledger: Ledger) -> usize {
+    let values = [ledger.count as u64];
+    let at = more(text, held, &values);
+    say_places(text, at, ledger)
+}
+
 // Number, row count and places.
 fn say_ledger(text: &mut [u8], held: usize, answer: Answer) -> usize {
     let ledger = answer.ledger;
     let at = number(text, held, answer.number as u64);
-    let values = [ledger.count as u64];
-    let end = more(text, at, &values);
-    say_places(text, end, ledger)
+    say_rows(text, at, ledger)
 }
 
 // A record of a block posted: the ledger's octets, then the block's.

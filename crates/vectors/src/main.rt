@@ -1,8 +1,10 @@
 // Runs the cases of standard input through the layers, a line for each to standard output: `read OCTETS`, `step START OCTETS`,
-// `entry START K OCTETS`, `rewrite ROOM OCTETS`, `write ROOM CELLS OCTETS`, `post K LEDGER OCTETS`, `load OCTETS`, `store ROOM LEDGER`.
+// `entry START K OCTETS`, `rewrite ROOM OCTETS`, `write ROOM CELLS OCTETS`, `post K LEDGER OCTETS`, `load OCTETS`, `store ROOM LEDGER`,
+// `feed PIECE OCTETS`.
 mod answer;
 mod case;
 mod cells;
+mod feeds;
 mod ledgers;
 mod store;
 mod written;

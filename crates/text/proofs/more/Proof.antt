@@ -1,60 +1,39 @@
--- `more` reads below the slice's length only. The loop's invariant: the text keeps its length. Assumes nothing.
+-- `more`: the loop's invariant is that the numbers from the i-th on are still to be put. Assumes nothing.
 use mathlib.Core.Path.{_≡_}
 use Prim.Native.Nat.{_-_}
 use lib.ListN.{length}
 use borrow.Author.Needs.{needs}
+use Rattle.text.specs.Digits.{blankNumber}
+use Rattle.text.specs.Gathered.{gathered}
+use Rattle.text.proofs.GatheredLaws as laws
 use Rattle.text.proofs.more.Statement.{statement}
 use Rattle.text.proofs.more.Tie as tie
 
 abbrev Inv-loop : tie.InvT-loop
-Inv-loop text₀ held values at₀ i₀ text at i = length text ≡ length text₀
+Inv-loop text₀ held values at₀ i₀ text at i = (length text ≡ length text₀) × laws.Coming blankNumber values (gathered text₀ held) (gathered text at) i
 
 abbrev μ-loop : tie.MeasureT-loop
 μ-loop text₀ held values at₀ i₀ text at i = length values - i
 
-loop-holds : tie.Need-loop-holds Inv-loop μ-loop
-loop-holds c = search needs
-
-emit-requires : tie.Need-emit-requires Inv-loop μ-loop
-emit-requires c κs = search needs
-
-mul-number : tie.Need-mul-number Inv-loop μ-loop
-mul-number c = search needs
-
-shared-slice-read-number : tie.Need-shared-slice-read-number Inv-loop μ-loop
-shared-slice-read-number c = search needs
-
-number-requires : tie.Need-number-requires Inv-loop μ-loop
-number-requires c κs = search needs
-
-add-i : tie.Need-add-i Inv-loop μ-loop
-add-i c = search needs
-
-loop-less : tie.Need-loop-less Inv-loop μ-loop
-loop-less c = search needs
-
 loop-again : tie.Need-loop-again Inv-loop μ-loop
-loop-again c = search needs
-
-same-length : tie.Need-same-length Inv-loop μ-loop
-same-length c = search needs
-
-returns : tie.Need-returns Inv-loop μ-loop
-returns c = search needs
+loop-again c =
+    let d = c .before .before in
+    let e = d .before .before .before .before .before in
+    let l = e .before .before .before in
+    let both = laws.put-more _ _ _ _ _ (e .emit .ensures) (d .number .ensures) in
+    (search needs, laws.one-less _ _ _ _ _ _ (search needs) both (l .loop .inv .1))
 
 pub more-spec : {M : Type 1} → statement M
 more-spec =
     tie.close
-    (tie.spec
-    Inv-loop
-    μ-loop
-    loop-holds
-    emit-requires
-    mul-number
-    shared-slice-read-number
-    number-requires
-    add-i
-    loop-less
+    (tie.spec Inv-loop μ-loop
+    (λ c. search needs)
+    (λ c κs. search needs)
+    (λ c. search needs)
+    (λ c. search needs)
+    (λ c κs. search needs)
+    (λ c. search needs)
+    (λ c. search needs)
     loop-again
-    same-length
-    returns)
+    (λ c. search needs)
+    (λ c. laws.none-left _ _ _ _ _ (c .loop-test .left) (c .before .loop .inv .1)))

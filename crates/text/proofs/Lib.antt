@@ -1,0 +1,3 @@
+pub mod GatheredLaws
+pub mod DecimalLaws
+pub mod Examples

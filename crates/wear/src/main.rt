@@ -1,0 +1,76 @@
+// Reads a feed on standard input, posts the statistics reports of its blocks to a fresh ledger, and prints the ledger and the totals.
+ghost use mathlib.Core.List.{[]};
+ghost use mathlib.Core.Path.{_≡_};
+ghost use lib.ListN.{length};
+ghost use Rattle.ledger.specs.Ledgers.{columns, ledgerOf};
+ghost use Rattle.wear.specs.Turns.{Worn};
+ghost use Rattle.wear.specs.declared.input.Going.{Going};
+
+mod input;
+mod panel;
+
+use crate::input::Going;
+use crate::input::Turn;
+use crate::input::take_turn;
+use feed::totals::Totals;
+
+// Turns until the run is over or a read fails. A proved loop has to end, and nothing says that the input does: it counts its turns down, from a
+// number that no run uses up.
+fn turns(
+    buffer: &mut [u8],
+    count: &mut usize,
+    keys: &mut [u32; 256],
+    lives: &mut [u64; 256],
+    readings: &mut [u32; 256],
+) -> Turn
+    requires { ⌜ (length (now buffer) ≡ 131072) × (columns (now count) (now keys) (now lives) (now readings) ≡ ledgerOf []) ⌝ }
+    ensures { λ r. ⌜ (r .going ≡ Going.Over → Worn (columns (now (count .exit)) (now (keys .exit)) (now (lives .exit)) (now (readings .exit))) (r .totals)) ⌝ }
+{
+    let mut now = Turn {
+        held: 0,
+        totals: Totals {
+            accepted: 0,
+            refused: 0,
+            posted: 0,
+            unposted: 0,
+        },
+        going: Going::On,
+    };
+    let mut left = u64::MAX;
+    while 0 < left {
+        now = take_turn(buffer, count, keys, lives, readings, now);
+        let going = now.going;
+        if let Going::On = going {
+            left -= 1;
+        } else {
+            return now;
+        }
+    }
+    now
+}
+
+// One buffer that holds the longest block twice over, and one ledger, whatever the length of the input.
+fn main() {
+    let mut buffer = [0u8; 131072];
+    let mut count: usize = 0;
+    let mut keys = [0u32; 256];
+    let mut lives = [0u64; 256];
+    let mut readings = [0u32; 256];
+    let last = turns(
+        &mut buffer,
+        &mut count,
+        &mut keys,
+        &mut lives,
+        &mut readings,
+    );
+    let going = last.going;
+    if let Going::Over = going {
+        let totals = last.totals;
+        panel::print(count, &keys, &lives, &readings, totals);
+    } else {
+        io::write_all(
+            2,
+            b"wear: standard input could not be read to its end; nothing is printed\n",
+        );
+    }
+}
