@@ -37,6 +37,10 @@ LARGE = [
     ('rewrite 54613 17FFFF 10922*510002000000', '0 54613 1 17D555' + '5002000000' * 10922),
 ]
 
+# The feeds of `wear`, with what it prints, and the octets of a piece; 0 is all at once.
+FEEDS = os.path.join(HERE, '..', 'wear', 'base')
+PIECES = [0, 1, 7, 4096]
+
 
 def must(holds, text):
     if not holds:
@@ -124,6 +128,20 @@ def line_and_answer(case):
     return 'entry %d %d %s' % (case['start'], case['k'], octets), numbers([number, offset] + values)
 
 
+def feed_cases():
+    """Each feed in pieces of each size: the totals, the row count, and each place that is not all zero."""
+    for name in sorted(name for name in os.listdir(FEEDS) if '.' not in name):
+        with open(os.path.join(FEEDS, name), 'rb') as f:
+            octets = f.read().hex()
+        with open(os.path.join(FEEDS, name + '.wear')) as f:
+            _, *rows, totals = f.read().splitlines()
+        rows = [(int(key, 16), int(life), int(reading)) for key, life, reading in map(str.split, rows)]
+        places = [value for i, row in enumerate(rows) if any(row) for value in (i,) + row]
+        answer = numbers(totals.split()[1::2] + [len(rows)] + places)
+        for piece in PIECES:
+            yield 'feed %d %s' % (piece, octets), answer
+
+
 def is_sayable(case):
     """A record that no typed record holds cannot be handed over; its answer has to be 11."""
     if case['op'] != 'write' or is_held(case['record']):
@@ -133,7 +151,7 @@ def is_sayable(case):
 
 
 def stored():
-    """The cases of each operation, with how many of the stored ones are left out, and the large blocks."""
+    """The cases of each operation, with how many of the stored ones are left out, the large blocks, and the feeds."""
     for op, count in CASES.items():
         with open(os.path.join(HERE, 'base', op + '.jsonl')) as f:
             cases = [json.loads(line) for line in f]
@@ -142,6 +160,7 @@ def stored():
         said = [line_and_answer(case) for case in cases if is_sayable(case)]
         yield op, said, count - len(said)
     yield 'large blocks', LARGE, 0
+    yield 'feed', list(feed_cases()), 0
 
 
 def judge(path):
