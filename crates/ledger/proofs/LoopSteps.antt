@@ -22,7 +22,7 @@ use Rattle.ledger.specs.Ledgers.{rowsOf, ledgerOf}
 use Rattle.ledger.specs.Reports.{entriesFrom}
 use Rattle.ledger.specs.Steps.{Kept, heldOf}
 use Rattle.ledger.specs.declared.Ledger.{Ledger}
-use Rattle.ledger.specs.declared.columns.Row.{Row as Held}
+use Rattle.ledger.specs.declared.columns.Row.{Row as HeldRow}
 use Rattle.ledger.proofs.ColumnLaws.{rows-back, kept-of}
 use Rattle.ledger.proofs.EntryLaws.{entries-long, entryFor, left, left-all, left-next, left-none}
 use Rattle.ledger.proofs.NotedLaws.{seen-none, seen-again, Counted, counted-more, Worked, worked-mark, worked-past, worked-more}
@@ -81,8 +81,8 @@ module _ (l : Ledger) (s : List ℕ) (first at n : ℕ) where
         ap (λ m. leb m 256) (none-new ∙ ap (rowsFor (d .now)) (sym (left-none s first at n time i h)) ∙ d .same)
 
     -- what is held of a key is one row more at most
-    pub count-fits : (k : ℕ) (h : Held) → h ≡ heldOf (rowOf (rowsOf l) k) → many + h .new ≤ l .count + i + 1
-    count-fits k h e = omega (arith, c .few, held-few (rowOf (rowsOf l) k), ap (λ (r : Held). r .new) e)
+    pub count-fits : (k : ℕ) (h : HeldRow) → h ≡ heldOf (rowOf (rowsOf l) k) → many + h .new ≤ l .count + i + 1
+    count-fits k h e = omega (arith, c .few, held-few (rowOf (rowsOf l) k), ap (λ (r : HeldRow). r .new) e)
 
     module _ (x : Counter) (q : x ≡ entryOf s at i) (less : i < n) (small : x .typ < 256) where
       -- an entry more: one row more where its key had none
@@ -100,7 +100,7 @@ module _ (l : Ledger) (s : List ℕ) (first at n : ℕ) where
       count-seen h = count-more (omega (arith, c .few)) (seen-again seen (x .typ) h) (λ time. rw (c .counts time .noted .own (x .typ) h) (omega arith))
 
       -- or not: the ledger knows whether its key has a row
-      pub count-new : getD seen (x .typ) false ≡ false → (h : Held) → h ≡ heldOf (rowOf (rowsOf l) (first + x .typ))
+      pub count-new : getD seen (x .typ) false ≡ false → (h : HeldRow) → h ≡ heldOf (rowOf (rowsOf l) (first + x .typ))
           → CountLoop l s first at n (set seen (x .typ) true) (many + h .new) (i + 1)
       count-new f h e =
           count-more (count-fits (first + x .typ) h e) refl
@@ -138,7 +138,7 @@ module _ (l : Ledger) (s : List ℕ) (first at n : ℕ) where
     pass-end h time = let d = c .works time in ap (passes addUp (d .now)) (sym (left-none s first at n time i h)) ∙ d .same
 
     -- a TYPE that has not been seen: what the ledger holds of its key is noted
-    pub pass-mark : (t : ℕ) → t < 256 → getD seen t false ≡ false → (h : Held) → h ≡ heldOf (rowOf (rowsOf l) (first + t))
+    pub pass-mark : (t : ℕ) → t < 256 → getD seen t false ≡ false → (h : HeldRow) → h ≡ heldOf (rowOf (rowsOf l) (first + t))
         → PassLoop l s first at n (set seen t true) (set life t (h .life)) (set reading t (h .reading)) i
         × (getD (set seen t true) t false ≡ true)
     pass-mark t b f h e =

@@ -17,7 +17,7 @@ use Rattle.rows.proofs.Cases.{test}
 use Rattle.rows.proofs.Rows.{sorted-add, row-own, row-other, length-add, rows-step}
 use Rattle.rows.proofs.Theorems.{adding-key}
 use Rattle.ledger.specs.Steps.{heldOf}
-use Rattle.ledger.specs.declared.columns.Row.{Row as Held}
+use Rattle.ledger.specs.declared.columns.Row.{Row as HeldRow}
 use Rattle.ledger.proofs.EntryLaws.{entryFor}
 
 -- The notes
@@ -120,7 +120,7 @@ held-row k (some r) = (refl, refl)
 module _ {rows : List Row} {first : ℕ} {all es : List Entry} {seen : List Bool} {life reading : List ℕ} where
   -- a TYPE is seen for the first time: what is held of its key is noted
   pub worked-mark : (t : ℕ) → t < length seen → t < length life → t < length reading → getD seen t false ≡ false
-      → (h : Held) → h ≡ heldOf (rowOf rows (first + t)) → Worked rows first all es seen life reading
+      → (h : HeldRow) → h ≡ heldOf (rowOf rows (first + t)) → Worked rows first all es seen life reading
       → Worked rows first all es (set seen t true) (set life t (h .life)) (set reading t (h .reading))
   worked-mark t a b d f h e c =
       let row = rowOf (c .now) (first + t) in

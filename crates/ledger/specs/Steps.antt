@@ -10,7 +10,7 @@ use Rattle.rows.specs.Rows.{Row, Entry}
 use Rattle.rows.specs.Posting.{Good}
 use Rattle.ledger.specs.Ledgers.{rowsOf, ledgerOf}
 use Rattle.ledger.specs.declared.Ledger.{Ledger}
-use Rattle.ledger.specs.declared.columns.Row.{Row as Held}
+use Rattle.ledger.specs.declared.columns.Row.{Row as HeldRow}
 
 -- a ledger that keeps the rules, as its rows do
 pub record Kept (l : Ledger) : Type 0 where
@@ -49,7 +49,7 @@ abbrev pub opened : ℕ → ℕ → ℕ → List ℕ → List ℕ
 opened n at x ys = removeAt (n + 1) (insertAt at x ys)
 
 -- what a ledger has of a key: its row, or a new one
-abbrev pub heldOf : Option Row → Held
+abbrev pub heldOf : Option Row → HeldRow
 heldOf none = record { new = 1; life = 0; reading = 0 }
 heldOf (some r) = record { new = 0; life = r .life; reading = r .reading }
 
