@@ -5,17 +5,18 @@ use mathlib.Core.Bool.{Bool, true, false}
 use mathlib.Core.List.{List, [], _∷_, _++_, append-assoc}
 use Prim.Native.Nat.{ℕ, zero, suc, _+_, _*_, _≤_, _<_}
 use native.Mathlib.Omega.{arith}
-use lib.Dec.{ltb, eqb}
-use lib.ListN.{length, getD, take, length-append, length-take, List·getD-eq-default}
-use lib.Seq.{take-at, drop-at, getD-take}
+use lib.Dec.{eqb}
+use lib.ListN.{length, getD, take, length-append}
+use lib.Seq.{take-at, drop-at}
 use borrow.Author.Tests.{ltb-true, ltb-false, eqb-true}
 use Rattle.octets.specs.Choice.{pick}
 use Rattle.octets.specs.Numbers.{Octets, number, octets}
 use Rattle.octets.proofs.Numbers.{number-lt, number-octets, length-octets}
+use Rattle.octets.proofs.Cases.{both}
+use Rattle.octets.proofs.Parts.{Octets-drop, Octets-take}
 use Rattle.layouts.specs.Formats.{Answer, refused, got}
 use Rattle.layouts.specs.Categories.{Category, cat23, cat65, cat242, known, category}
-use Rattle.layouts.proofs.Answers.{both, and-yes}
-use Rattle.layouts.proofs.Formats.{Octets-drop}
+use Rattle.layouts.proofs.Answers.{and-yes}
 use Rattle.layouts.proofs.Windows.{window, window-long}
 use Rattle.blocks.specs.Specification.{zeros, putMarks}
 use Rattle.blocks.specs.Records.{Rec, recordOf, good, putRec}
@@ -162,15 +163,6 @@ weaker : {P Q : ℕ → List Rec → Type 0} → ((cat : ℕ) (rs : List Rec) �
     → (b : Block) → OfAll P b → OfAll Q b
 weaker f (wrong n at) h = tt
 weaker f (all cat rs) h = f cat rs h
-
-pub Octets-take : (n : ℕ) (s : List ℕ) → Octets s → Octets (take n s)
-Octets-take n s o i = go (ltb i n) refl
-  where
-    go : (b : Bool) → ltb i n ≡ b → getD (take n s) i 0 < 256
-    go true e = let h : i < n = ltb-true i n e in rw (getD-take n s i 0 h) (o i)
-    go false e =
-        let h : length (take n s) ≤ i = rw length-take (omega (arith, ltb-false i n e)) in
-        rw (List·getD-eq-default (take n s) 0 h) (omega arith)
 
 -- what an accepted block is
 pub record Sound (s : List ℕ) (cat : ℕ) (rs : List Rec) : Type 0 where

@@ -12,13 +12,13 @@ use lib.Dec.{ltb, leb, eqb}
 use lib.ListN.{length, getD}
 use Rattle.octets.specs.Choice.{pick, odd}
 use Rattle.octets.specs.Numbers.{Octets, number}
+use Rattle.octets.proofs.Cases.{choose, both}
 use Rattle.layouts.specs.Formats.{Answer, refused, got, andThen, Format, Trace, fitsIn}
 use Rattle.layouts.specs.Offsets.{runAt, itemAt}
 use Rattle.layouts.specs.Layouts.{Layout, unused, fixed, extended, repeated, explicit, format, kindOf}
 use Rattle.layouts.specs.Ends.{endOf, roomEnd, countedEnd, chainEnd, kindEnd}
 use Rattle.layouts.specs.Tables.{layout}
 use Rattle.layouts.specs.Categories.{Category, known}
-use Rattle.layouts.proofs.Answers.{both, choose}
 use Rattle.layouts.proofs.KindEnds.{sound, forms-sound, flagged, extensions, kind-end}
 use Rattle.layouts.proofs.Windows.{run-trace}
 use Rattle.layouts.specs.declared.ends.End.{End}

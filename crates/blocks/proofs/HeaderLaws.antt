@@ -9,8 +9,8 @@ use lib.Dec.{ltb}
 use lib.ListN.{length, getD}
 use Rattle.octets.specs.Numbers.{number}
 use Rattle.octets.specs.Refusals.{tooShort, unknownCategory, lenTooSmall}
+use Rattle.octets.proofs.Cases.{choose}
 use Rattle.layouts.specs.Categories.{known}
-use Rattle.layouts.proofs.Answers.{choose}
 use Rattle.blocks.specs.Headers.{headerOf}
 use Rattle.blocks.specs.declared.header.Head.{Head}
 use Rattle.blocks.specs.declared.header.Head.the-variants.{Good, Refused}

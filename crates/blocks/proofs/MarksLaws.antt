@@ -11,10 +11,11 @@ use lib.ListN.{length, getD, replicate, length-replicate}
 use Rattle.octets.specs.Choice.{pick, odd}
 use Rattle.octets.specs.Numbers.{Octets}
 use Rattle.octets.specs.Refusals.{longSpecification}
+use Rattle.octets.proofs.Cases.{choose}
 use Rattle.layouts.specs.Formats.{Answer, refused, got, andThen}
 use Rattle.layouts.specs.Ends.{endOf, chainEnd}
 use Rattle.layouts.specs.declared.form.Form.{Form}
-use Rattle.layouts.proofs.Answers.{OfGot, choose, of-pick}
+use Rattle.layouts.proofs.Answers.{OfGot, of-pick}
 use Rattle.layouts.proofs.KindEnds.{none-left, end-then}
 use Rattle.blocks.specs.Specification.{zeros, flags}
 use Rattle.blocks.specs.Presence.{Row, meets}

@@ -10,6 +10,7 @@ use lib.Dec.{leb, ltb, eqb}
 use lib.ListN.{length, getD, replicate}
 use Rattle.octets.specs.Choice.{pick, odd}
 use Rattle.octets.specs.Numbers.{Octets, number}
+use Rattle.octets.proofs.Cases.{choose, both}
 use Rattle.layouts.specs.Groups.{values, Group}
 use Rattle.layouts.specs.Formats.{Answer, refused, got, andThen, Format, done, ask, Trace, fitsIn}
 use Rattle.layouts.specs.Offsets.{runAt, itemAt}
@@ -18,7 +19,7 @@ use Rattle.layouts.specs.Tables.{layout}
 use Rattle.layouts.specs.Categories.{Category, known, category}
 use Rattle.layouts.specs.declared.form.Form.{Form}
 use Rattle.layouts.specs.declared.form.Form.the-variants as form
-use Rattle.layouts.proofs.Answers.{both, got-refused, pick-no, through, OfGot, choose}
+use Rattle.layouts.proofs.Answers.{got-refused, pick-no, through, OfGot}
 use Rattle.items.specs.Typed.{val, itemOf, traceOf}
 use Rattle.items.specs.declared.typed.Item.{Item}
 use Rattle.items.proofs.Items.{typed-trace}

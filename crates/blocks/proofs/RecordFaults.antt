@@ -11,12 +11,13 @@ use lib.Dec.{eqb}
 use lib.ListN.{length, getD, take}
 use Rattle.octets.specs.Choice.{pick}
 use Rattle.octets.specs.Numbers.{Octets}
+use Rattle.octets.proofs.Cases.{choose}
 use Rattle.layouts.specs.Formats.{Answer, refused, got, andThen, Format, done, Trace, fitsIn}
 use Rattle.layouts.specs.Offsets.{runAt, itemAt}
 use Rattle.layouts.specs.Layouts.{format, kindOf}
 use Rattle.layouts.specs.Tables.{layout}
 use Rattle.layouts.specs.Categories.{Category, formAt, layoutAt}
-use Rattle.layouts.proofs.Answers.{choose, through}
+use Rattle.layouts.proofs.Answers.{through}
 use Rattle.layouts.specs.declared.form.Form.{Form}
 use Rattle.blocks.specs.Specification.{zeros, flags}
 use Rattle.blocks.specs.Marks.{marksOf}

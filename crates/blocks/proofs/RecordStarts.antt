@@ -1,7 +1,7 @@
 -- Where the items of a record start: the array that the walk over the fields fills, and the typed record that is made by it.
 -- Assumes nothing.
 use mathlib.Core.Path.{_≡_, refl, sym, _∙_}
-use mathlib.Core.Bool.{Bool, true, false}
+use mathlib.Core.Bool.{true, false}
 use mathlib.Core.List.{List}
 use Prim.Native.Nat.{ℕ, zero, suc, _+_, _-_, _<_, _≤_}
 use native.Mathlib.Omega.{arith}
@@ -10,15 +10,11 @@ use lib.Dec.{ltb, eqb}
 use lib.ListN.{length, getD, set, replicate, length-set, getD-replicate, List·getD-eq-default}
 use lib.Seq.{getD-set-same, getD-set-other}
 use Rattle.octets.specs.Choice.{pick}
+use Rattle.octets.proofs.Cases.{test}
 use Rattle.layouts.specs.Layouts.{kindOf}
 use Rattle.layouts.specs.Ends.{kindEnd}
 use Rattle.layouts.specs.Categories.{Category, cat23, cat65, cat242, category, known, layoutAt}
 use Rattle.blocks.specs.Typed.{endFrom, marked, behind, startOf, typedBy, typedOf}
-
--- what holds by either answer of a test holds
-by-test : {P : Type 0} (b : Bool) → (b ≡ true → P) → (b ≡ false → P) → P
-by-test true f g = f refl
-by-test false f g = g refl
 
 module _ (s : List ℕ) (len : ℕ) (c : Category) (marks at : ℕ) where
   -- the fields before f are done: the walk stands behind their items, and has noted where these start
@@ -41,7 +37,7 @@ module _ (s : List ℕ) (len : ℕ) (c : Category) (marks at : ℕ) where
     inside = h;
     noted = λ g l m. absurd (omega arith);
     left = λ g l m. getD-replicate 15 g (length s) 0 m;
-    within = λ g. by-test (ltb g 15)
+    within = λ g. test (ltb g 15)
         (λ t. rw (getD-replicate 15 g (length s) 0 (ltb-true g 15 t)) (omega arith))
         (λ t. rw (List·getD-eq-default (replicate 15 (length s)) 0 {n = g} (ltb-false g 15 t)) (omega arith));
   }
@@ -65,7 +61,7 @@ module _ (s : List ℕ) (len : ℕ) (c : Category) (marks at : ℕ) where
       size = w .size;
       here = sym (behind-next p f (w .low) (w .here) ∙ rw e);
       inside = w .inside;
-      noted = λ g l m. by-test (eqb g f)
+      noted = λ g l m. test (eqb g f)
           (λ t. rw (eqb-true g f t, e) (w .left f (omega arith) more))
           (λ t. w .noted g l (omega (arith, eqb-false g f t)));
       left = λ g l m. w .left g (omega arith) m;
@@ -84,11 +80,11 @@ module _ (s : List ℕ) (len : ℕ) (c : Category) (marks at : ℕ) where
           size = rw length-set (w .size);
           here = h ∙ sym (behind-next p f (w .low) (w .here) ∙ rw e);
           inside = k;
-          noted = λ g l m. by-test (eqb g f)
+          noted = λ g l m. test (eqb g f)
               (λ t. rw (eqb-true g f t, e, same) (w .here))
               (λ t. other g (eqb-false g f t) ∙ w .noted g l (omega (arith, eqb-false g f t)));
           left = λ g l m. other g (λ t. omega arith) ∙ w .left g (omega arith) m;
-          within = λ g. by-test (eqb g f)
+          within = λ g. test (eqb g f)
               (λ t. rw (eqb-true g f t, same) (omega arith))
               (λ t. rw (other g (eqb-false g f t)) (w .within g));
         }

@@ -10,9 +10,9 @@ use lib.Dec.{eqb}
 use lib.ListN.{length, getD, drop, length-append}
 use Rattle.octets.specs.Choice.{odd}
 use Rattle.octets.specs.Numbers.{Octets}
+use Rattle.octets.proofs.Cases.{both}
 use Rattle.layouts.specs.Formats.{got, Format, Trace}
 use Rattle.layouts.specs.Categories.{Category}
-use Rattle.layouts.proofs.Answers.{both}
 use Rattle.layouts.proofs.Formats.{put-length}
 use Rattle.blocks.specs.Specification.{specs, putMarks}
 use Rattle.blocks.specs.Records.{Rec, layoutOf, putItems, recordOf, good, putRec}

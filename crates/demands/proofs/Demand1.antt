@@ -10,7 +10,6 @@ use lib.Seq.{take-at}
 use Rattle.octets.specs.Numbers.{Octets}
 use Rattle.octets.specs.Outcomes.{no, puts}
 use Rattle.octets.specs.Refusals.{rulesBroken}
-use Rattle.rows.proofs.Cases.{test}
 use Rattle.layouts.specs.Categories.{category}
 use Rattle.blocks.specs.Boundaries.{Joined, Full, Stopped}
 use Rattle.blocks.specs.Headers.{headerOf}
@@ -31,6 +30,7 @@ use Rattle.demands.specs.Contracts.{Reads, Writes, Rewrites, Posts, Load
 use Rattle.demands.specs.Verdicts.{Verdict}
 use Rattle.demands.proofs.Verdicts.{verdict}
 use Rattle.octets.proofs.Outcomes.{refused-same, written-laid}
+use Rattle.octets.proofs.Cases.{test}
 
 -- A block that is accepted: its records fill LEN exactly, from 3 to LEN, and the answer has their number.
 pub accepted-filled : (s : List ℕ) (len n : ℕ) → Octets s → Reads s (Reading.Accepted len n) → Full s len n

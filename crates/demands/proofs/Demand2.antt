@@ -12,7 +12,6 @@ use Rattle.octets.specs.Refusals.{noSuch}
 use Rattle.layouts.specs.Formats.{got}
 use Rattle.layouts.specs.Categories.{Category, category, known}
 use Rattle.layouts.proofs.Before.{SameBefore}
-use Rattle.layouts.proofs.Formats.{Octets-drop}
 use Rattle.blocks.specs.Headers.{headerOf}
 use Rattle.blocks.specs.Records.{Rec, layoutOf, putItems, recordOf}
 use Rattle.blocks.specs.Blocks.{all, records, blockOf}
@@ -40,6 +39,7 @@ use Rattle.writing.proofs.WriteTheorems.{write-normal, write-reading}
 use Rattle.writing.proofs.ReadBackTheorems.{write-back, entry-back, entry-none}
 use Rattle.demands.specs.Contracts.{Reads, Steps, Entries, Writes, Rewrites}
 use Rattle.octets.proofs.Outcomes.{Laid, written-laid}
+use Rattle.octets.proofs.Parts.{Octets-drop}
 
 -- Steps from 3 visit exactly the records that reading counts, and these mean the records of the block.
 pub visits : (s : List ℕ) (len n : ℕ) → Octets s → Reads s (Reading.Accepted len n)

@@ -11,12 +11,12 @@ use lib.Dec.{ltb}
 use lib.ListN.{length, getD, length-map}
 use Rattle.octets.specs.Choice.{pick}
 use Rattle.octets.specs.Numbers.{Octets}
+use Rattle.octets.proofs.Cases.{test}
 use Rattle.blocks.specs.declared.walk.Reading.{Reading}
 use Rattle.rows.specs.Rows.{rowOf, lifeOf, addUp}
 use Rattle.rows.specs.Posting.{refused, entries, names, answers, after, ofKey, tally, accepted}
 use Rattle.rows.specs.Order.{times, upto}
 use Rattle.rows.specs.Order as rows
-use Rattle.rows.proofs.Cases.{test}
 use Rattle.rows.proofs.Numbers.{map-same, times-upto, place-upto}
 use Rattle.rows.proofs.Theorems.{adding-key, any-order, row-rule}
 use Rattle.ledger.specs.Ledgers.{answer, rowsOf, ledgerOf, keepsRules, Held}

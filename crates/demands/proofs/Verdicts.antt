@@ -9,14 +9,14 @@ use lib.ListN.{getD}
 use Rattle.octets.specs.Numbers.{Octets}
 use Rattle.octets.specs.Choice.{pick}
 use Rattle.octets.specs.Refusals.{notStatistics, noRoom, lifePasses, rulesBroken}
+use Rattle.octets.proofs.Cases.{test}
 use Rattle.blocks.specs.Typed.{absent}
 use Rattle.blocks.specs.Walks.{readOf}
 use Rattle.blocks.specs.declared.record.Record.{Record}
 use Rattle.blocks.specs.declared.walk.Reading.{Reading}
 use Rattle.blocks.specs.declared.walk.Reading.the-variants as reading
 use Rattle.rows.specs.Rows.{Row, Entry, addUp}
-use Rattle.rows.specs.Posting.{Report, Posted, rowsFor, passes, postRows, refused, counts}
-use Rattle.rows.proofs.Cases.{test}
+use Rattle.rows.specs.Posting.{Report, rowsFor, passes, postRows, refused, counts}
 use Rattle.ledger.specs.Ledgers.{answer, rowsOf, keepsRules}
 use Rattle.ledger.specs.Posts.{postOf}
 use Rattle.ledger.specs.Reports.{isStatistics, entriesOf, reportIn, reportAt, reportBy, reportOf}

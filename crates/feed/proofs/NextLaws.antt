@@ -8,6 +8,7 @@ use lib.Dec.{ltb, eqb}
 use lib.ListN.{length}
 use Rattle.octets.specs.Choice.{pick}
 use Rattle.octets.specs.Numbers.{Octets}
+use Rattle.octets.proofs.Cases.{choose}
 use Rattle.blocks.specs.Walks.{readOf}
 use Rattle.blocks.specs.declared.walk.Reading.{Reading}
 use Rattle.blocks.specs.declared.walk.Reading.the-variants as reading
@@ -18,10 +19,6 @@ use Rattle.feed.specs.declared.block.Next.{Next}
 use Rattle.feed.specs.declared.block.Next.the-variants as next
 
 -- The cases
-
-pub choose : {A : Type 0} (P : A → Type 0) (b : Bool) {x y : A} → (b ≡ true → P x) → (b ≡ false → P y) → P (pick b x y)
-choose P true f g = f refl
-choose P false f g = g refl
 
 -- LEN octets are there, and LEN is 4 at least
 pub record Whole (s : List ℕ) (len : ℕ) : Type 0 where

@@ -11,6 +11,7 @@ use lib.ListN.{length, getD, length-append, List·getD-append, List·getD-eq-def
 use Rattle.octets.specs.Choice.{pick}
 use Rattle.octets.specs.Numbers.{Octets, number}
 use Rattle.octets.proofs.Numbers.{number-lt}
+use Rattle.octets.proofs.Cases.{test, choose}
 use Rattle.blocks.specs.Statistics.{statisticsOf}
 use Rattle.blocks.specs.Steps.{stepOf}
 use Rattle.blocks.specs.Walks.{readOf}
@@ -22,7 +23,6 @@ use Rattle.blocks.specs.declared.walk.Reading.the-variants as reading
 use Rattle.blocks.proofs.SameAnswers.{read-after-len, step-after-len}
 use Rattle.blocks.proofs.StepLaws.{ofStep}
 use Rattle.rows.specs.Posting.{counts}
-use Rattle.rows.proofs.Cases.{test}
 use Rattle.ledger.specs.Reports.{isStatistics, entriesFrom, reportIn}
 use Rattle.ledger.specs.Steps.{Lies}
 use Rattle.ledger.proofs.ReportLaws.{lies, entries-lie}
@@ -30,7 +30,7 @@ use Rattle.feed.specs.Blocks.{lenOf, judged, nextOf, reportsFrom, report
 use Rattle.feed.specs.Runs.{State, acceptedBlock}
 use Rattle.feed.specs.declared.block.Next.{Next}
 use Rattle.feed.specs.declared.block.Next.the-variants as next
-use Rattle.feed.proofs.NextLaws.{Whole, choose, next-cases, next-low, next-judged}
+use Rattle.feed.proofs.NextLaws.{Whole, next-cases, next-low, next-judged}
 use Rattle.feed.proofs.BlockTheorems.{reports-step}
 
 -- Octets with others behind them

@@ -6,8 +6,9 @@ use mathlib.Core.Logic.{inl, inr}
 use Prim.Native.Nat.{ℕ, zero, suc, _+_, _<_}
 use native.Mathlib.Omega.{arith}
 use lib.ListN.{length, drop, length-drop}
-use lib.Seq.{drop-append-le, drop-drop, getD-drop}
+use lib.Seq.{drop-append-le, drop-drop}
 use Rattle.octets.specs.Numbers.{Octets}
+use Rattle.octets.proofs.Parts.{Octets-drop}
 use Rattle.feed.specs.Blocks.{nextOf}
 use Rattle.feed.specs.Runs.{State, acceptedBlock, refusedBlock, Run, left, behind, goOn, runFrom, runOver, onward, inPieces, joined}
 use Rattle.feed.specs.declared.run.Ending.{Ending}
@@ -103,9 +104,6 @@ behind-none r = ap (λ (n : ℕ). left (r .state) n (r .ending)) (omega arith)
 behind-both : (n m : ℕ) (r : Run) → behind n (behind m r) ≡ behind (n + m) r
 behind-both n m r = ap (λ (k : ℕ). left (r .state) k (r .ending)) (omega arith)
 
-octets-rest : (n : ℕ) (s : List ℕ) → Octets s → Octets (drop n s)
-octets-rest n s o i = rw getD-drop (o (n + i))
-
 octets-drop : (n : ℕ) (s t : List ℕ) → Octets (s ++ t) → Octets (drop n s ++ t)
 octets-drop zero s t o = o
 octets-drop (suc n) [] t o = o
@@ -120,8 +118,8 @@ rest-short =
     runs (λ s st r. Octets s → r .ending ≡ Ending.More → length (drop (r .at) s) < 65535)
     (λ s st e o h. absurd (not-waiting h))
     (λ s st e o h. next-waits s o e)
-    (λ s st len e r ih o h. rw (← drop-drop) (ih (octets-rest len s o) h))
-    (λ s st len e r ih o h. rw (← drop-drop) (ih (octets-rest len s o) h))
+    (λ s st len e r ih o h. rw (← drop-drop) (ih (Octets-drop len s o) h))
+    (λ s st len e r ih o h. rw (← drop-drop) (ih (Octets-drop len s o) h))
 
 -- More octets behind those of a run
 module _ (t : List ℕ) (over : Bool) where

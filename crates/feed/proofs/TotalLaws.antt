@@ -8,8 +8,8 @@ use borrow.Author.Tests.{leb-true, leb-false, le-leb, lt-leb, eq-eqb, ne-eqb}
 use lib.Dec.{leb, eqb}
 use Rattle.octets.specs.Choice.{pick}
 use Rattle.octets.specs.Refusals.{noRoom, lifePasses}
+use Rattle.octets.proofs.Cases.{test}
 use Rattle.rows.specs.Order.{times}
-use Rattle.rows.proofs.Cases.{test}
 use Rattle.feed.specs.Totals.{up, answeredOne, blockDone, acceptedOne}
 use Rattle.feed.specs.declared.totals.Totals.{Totals}
 

@@ -18,7 +18,7 @@ use Rattle.layouts.specs.Tables.{source, messageType, service, time, sdps, repo
 use Rattle.items.specs.Typed.{Given, given, firstNumber, secondNumber, placeOf, formOf, fieldOf, countedOctets, itemRefusal, itemOctets}
 use Rattle.octets.proofs.Laying.{laid-laid}
 use Rattle.octets.proofs.Numbers.{length-octets}
-use Rattle.layouts.proofs.Answers.{both}
+use Rattle.octets.proofs.Cases.{both}
 use Rattle.items.proofs.Entries.{entries-long}
 use Rattle.layouts.proofs.Groups.{values-merge}
 use Rattle.layouts.proofs.KindEnds.{flagged, flagged-fx}

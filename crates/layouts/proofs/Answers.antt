@@ -1,14 +1,10 @@
 -- Small facts on tests and answers. Assumes nothing.
 use mathlib.Core.Path.{_≡_, refl}
-use mathlib.Core.Bool.{Bool, true, false, _&&_, false≢true}
+use mathlib.Core.Bool.{Bool, true, false, _&&_}
 use Prim.Native.Nat.{ℕ}
 use native.Mathlib.Omega.{arith}
 use Rattle.octets.specs.Choice.{pick}
 use Rattle.layouts.specs.Formats.{Answer, refused, got, andThen}
-
-pub both : (a b : Bool) → (a && b) ≡ true → (a ≡ true) × (b ≡ true)
-both true b h = (refl, h)
-both false b h = absurd (false≢true h)
 
 pub and-yes : {a b : Bool} → a ≡ true → b ≡ true → (a && b) ≡ true
 and-yes h g = rw (h, g)
@@ -36,11 +32,6 @@ through (got a q) h = (a, q, refl, h)
 abbrev pub OfGot : {R A : Type 0} → (A → R → Type 0) → Answer R A → Type 0
 OfGot P (refused n) = Unit {0}
 OfGot P (got a r) = P a r
-
--- what holds of either of two, each by the test, holds of the one picked
-pub choose : {A : Type 0} (P : A → Type 0) (b : Bool) {x y : A} → (b ≡ true → P x) → (b ≡ false → P y) → P (pick b x y)
-choose P true f g = f refl
-choose P false f g = g refl
 
 pub of-pick : {A B : Type 0} (f : A → B) (b : Bool) (x y : A) → f (pick b x y) ≡ pick b (f x) (f y)
 of-pick f true x y = refl

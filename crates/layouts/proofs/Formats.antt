@@ -8,13 +8,15 @@ use native.Mathlib.Nat.{mod-eq-of-lt}
 use native.Mathlib.Omega.{arith}
 use lib.Dec.{ltb}
 use lib.ListN.{length, getD, drop, length-append, take-append-drop}
-use lib.Seq.{drop-at, getD-drop}
+use lib.Seq.{drop-at}
 use borrow.Author.Tests.{ltb-false, le-ltb}
 use Rattle.octets.specs.Numbers.{Octets, number, octets}
 use Rattle.octets.proofs.Numbers.{number-lt, number-octets, octets-number, length-octets}
+use Rattle.octets.proofs.Cases.{both}
+use Rattle.octets.proofs.Parts.{Octets-drop}
 use Rattle.layouts.specs.Groups.{values, merge, fits, Group}
 use Rattle.layouts.specs.Formats.{got, Format, done, stop, ask, Trace, run, fitsIn, item, put}
-use Rattle.layouts.proofs.Answers.{both, through, pick-no, pick-yes, got-refused, OfGot}
+use Rattle.layouts.proofs.Answers.{through, pick-no, pick-yes, got-refused, OfGot}
 use Rattle.layouts.proofs.Groups.{values-merge, merge-values, merge-lt, group-bits}
 
 -- a group
@@ -54,9 +56,6 @@ item-put f tr xs t h = rw (run-put f tr xs t h, h)
 pub record Was (f : Format) (s : List ℕ) (tr : Trace) (r : List ℕ) : Type 0 where
   pub bits : List ℕ
   pub is : s ≡ put f tr bits ++ r
-
-pub Octets-drop : (n : ℕ) (s : List ℕ) → Octets s → Octets (drop n s)
-Octets-drop n s o i = rw getD-drop (o (n + i))
 
 group-was : (g : Group) (s : List ℕ) → Octets s → g .wide ≤ length s
     → octets (g .wide) (merge (g .parts) (values (g .parts) (number (g .wide) s 0)) (number (g .wide) s 0)) ++ drop (g .wide) s ≡ s

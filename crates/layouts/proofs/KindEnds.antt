@@ -12,13 +12,14 @@ use lib.ListN.{length, getD}
 use Rattle.octets.specs.Choice.{pick, odd}
 use Rattle.octets.specs.Numbers.{Octets, number}
 use Rattle.octets.specs.Refusals.{passesEnd, noCount, pastLast}
+use Rattle.octets.proofs.Cases.{choose, both}
 use Rattle.layouts.specs.Groups.{Part, spare, value, values, Group}
 use Rattle.layouts.specs.Formats.{Answer, refused, got, andThen, Format, done, stop, ask, Trace}
 use Rattle.layouts.specs.Offsets.{runAt}
 use Rattle.layouts.specs.Layouts.{Layout, unused, fixed, extended, repeated, explicit, octet, lastOf, fx, times, chain, counted, format, kindOf}
 use Rattle.layouts.specs.Ends.{endOf, roomEnd, countedEnd, chainEnd, kindEnd}
 use Rattle.layouts.specs.Tables.{layout}
-use Rattle.layouts.proofs.Answers.{both, choose, of-pick}
+use Rattle.layouts.proofs.Answers.{of-pick}
 use Rattle.layouts.specs.declared.ends.End.{End}
 use Rattle.layouts.specs.declared.ends.End.the-variants.{At, Refused}
 use Rattle.layouts.specs.declared.form.Form.{Form}

@@ -10,11 +10,11 @@ use lib.ListN.{length, getD, set, replicate, length-set}
 use lib.Seq.{getD-set-same}
 use borrow.Author.Tests.{le-leb}
 use Rattle.octets.specs.Choice.{pick}
+use Rattle.octets.proofs.Cases.{neither}
 use Rattle.blocks.specs.Statistics.{entryOf}
 use Rattle.blocks.specs.declared.statistics.Entry.{Entry as Counter}
 use Rattle.rows.specs.Rows.{Row, adds, reads, addUp, rowOf, has, lifeOf}
 use Rattle.rows.specs.Posting.{newKeys, rowsFor, addEntry, addAll, passes}
-use Rattle.rows.proofs.Cases.{neither}
 use Rattle.rows.proofs.Rows.{rows-step, few-new}
 use Rattle.rows.proofs.Posts.{good-add}
 use Rattle.rows.proofs.Theorems.{adding-key, adding-under}

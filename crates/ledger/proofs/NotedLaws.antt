@@ -10,10 +10,10 @@ use lib.ListN.{length, getD, set, replicate}
 use lib.Seq.{getD-set-same, getD-set-other, set-getD}
 use borrow.Author.Tests.{eqb-true, eqb-false}
 use Rattle.octets.specs.Choice.{pick}
+use Rattle.octets.proofs.Cases.{test}
 use Rattle.blocks.specs.declared.statistics.Entry.{Entry as Counter}
 use Rattle.rows.specs.Rows.{Row, Entry, adds, reads, addUp, rowOf, has, lifeOf, orNew}
 use Rattle.rows.specs.Posting.{rowsFor, addEntry, passes, Sorted}
-use Rattle.rows.proofs.Cases.{test}
 use Rattle.rows.proofs.Rows.{sorted-add, row-own, row-other, length-add, rows-step}
 use Rattle.rows.proofs.Theorems.{adding-key}
 use Rattle.ledger.specs.Steps.{heldOf}

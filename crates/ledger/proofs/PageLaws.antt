@@ -10,6 +10,7 @@ use lib.Seq.{ext-getD, take-all}
 use borrow.Author.Tests.{leb-true, eqb-true, le-leb, eq-eqb}
 use Rattle.octets.specs.Numbers.{Octets, number, octets}
 use Rattle.octets.proofs.Numbers.{number-lt, number-octets, length-octets, octets-number}
+use Rattle.octets.proofs.Cases.{both}
 use Rattle.rows.specs.Rows.{Row, newRow}
 use Rattle.rows.specs.Posting.{Each}
 use Rattle.ledger.specs.Pages.{
@@ -25,7 +26,6 @@ use Rattle.ledger.specs.Pages.{
   countIn,
   headKeeps,
 }
-use Rattle.ledger.proofs.RuleTests.{both}
 use Rattle.ledger.proofs.RowPlaces.{each-from}
 use Rattle.ledger.proofs.TableLaws.{number-in, parts, length-rows, row-in, length-table, table-get, table-put}
 

@@ -8,16 +8,15 @@ use lib.ListN.{length}
 use Rattle.octets.specs.Numbers.{Octets}
 use Rattle.octets.specs.Outcomes.{puts}
 use Rattle.octets.specs.Refusals.{rulesBroken}
+use Rattle.octets.proofs.Cases.{test, both}
 use Rattle.rows.specs.Rows.{Row}
 use Rattle.rows.specs.Posting.{Each}
-use Rattle.rows.proofs.Cases.{test}
 use Rattle.ledger.specs.Ledgers.{answer, rowsOf, ledgerOf, keepsRules, Held}
 use Rattle.ledger.specs.Pages.{pageOf, ledgerIn, headKeeps, countIn, loadOf, storeOf}
 use Rattle.ledger.specs.Steps.{Kept}
 use Rattle.ledger.specs.declared.Answer.{Answer}
 use Rattle.ledger.specs.declared.Ledger.{Ledger}
 use Rattle.ledger.proofs.ColumnLaws.{col-long, rows-many, rows-get, rows-back, kept-of}
-use Rattle.ledger.proofs.RuleTests.{both}
 use Rattle.ledger.proofs.RowPlaces.{each-from, each-map, column-small}
 use Rattle.ledger.proofs.RuleLaws.{kept-rules}
 use Rattle.ledger.proofs.TableLaws.{length-rows}

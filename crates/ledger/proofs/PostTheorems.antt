@@ -5,9 +5,9 @@ use mathlib.Core.Path.{_≡_, ap, sym, _∙_, subst}
 use Prim.Native.Nat.{ℕ, _≤_}
 use native.Mathlib.Omega.{arith}
 use Rattle.octets.specs.Refusals.{rulesBroken}
+use Rattle.octets.proofs.Cases.{test}
 use Rattle.rows.specs.Rows.{rowOf, lifeOf, addUp}
 use Rattle.rows.specs.Posting.{Posted, postRows}
-use Rattle.rows.proofs.Cases.{test}
 use Rattle.rows.proofs.Theorems.{all-or-nothing, never-falls, stays-good, adding-key, adding-grows, adding-under}
 use Rattle.ledger.specs.Ledgers.{answer, rowsOf, ledgerOf, keepsRules, Held}
 use Rattle.ledger.specs.Posts.{postOf}

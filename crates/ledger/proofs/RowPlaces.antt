@@ -9,9 +9,9 @@ use lib.Dec.{ltb}
 use lib.ListN.{length, getD, drop, set, replicate, length-append, length-map}
 use lib.Seq.{getD-drop, getD-append-add, ext-getD, set-at}
 use borrow.Author.Tests.{ltb-true, ltb-false}
+use Rattle.octets.proofs.Cases.{test}
 use Rattle.rows.specs.Rows.{Row, newRow}
 use Rattle.rows.specs.Posting.{Above, Sorted, Each}
-use Rattle.rows.proofs.Cases.{test}
 use Rattle.ledger.specs.Ledgers.{columns, rowsFrom, column}
 use Rattle.ledger.proofs.ColumnLaws.{rowIn, col-long, col-get}
 

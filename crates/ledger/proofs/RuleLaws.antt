@@ -6,12 +6,13 @@ use native.Mathlib.Omega.{arith}
 use lib.Dec.{leb, ltb, eqb}
 use lib.ListN.{length, getD}
 use borrow.Author.Tests.{ltb-true, ltb-false, leb-true, eqb-true, eqb-false, le-leb, eq-eqb}
+use Rattle.octets.proofs.Cases.{test, both}
 use Rattle.rows.specs.Rows.{newRow}
-use Rattle.rows.proofs.Cases.{test, either}
+use Rattle.rows.proofs.Cases.{either}
 use Rattle.ledger.specs.Ledgers.{columns, rowsOf, ledgerOf, rowKeeps, placeEmpty, placeKeeps, keepsRules, Held}
 use Rattle.ledger.specs.Steps.{Kept}
 use Rattle.ledger.specs.declared.Ledger.{Ledger}
-use Rattle.ledger.proofs.RuleTests.{both, place-past, place-row, row-first, row-rises, all-hold, rules-hold, rules-few, rules-all}
+use Rattle.ledger.proofs.RuleTests.{place-past, place-row, row-first, row-rises, all-hold, rules-hold, rules-few, rules-all}
 use Rattle.ledger.proofs.ColumnLaws.{rows-many, rows-get, kept-rising}
 use Rattle.ledger.proofs.RowPlaces.{each-from, each-at, sorted-from, column-past, column-is}
 

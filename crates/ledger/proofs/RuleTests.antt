@@ -1,20 +1,16 @@
 -- The rules place by place: what the tests of the code say of a place, and of all places together. Assumes nothing.
 use mathlib.Core.Path.{_≡_, refl, sym, _∙_}
-use mathlib.Core.Bool.{Bool, true, false, _&&_, and-false, or-true, true≢false}
+use mathlib.Core.Bool.{Bool, true, false, and-false, or-true}
 use Prim.Native.Nat.{ℕ, zero, suc, _+_, _-_, _≤_, _<_}
 use native.Mathlib.Numerals.{add-one}
 use native.Mathlib.Omega.{arith}
 use lib.Dec.{leb, eqb}
 use lib.ListN.{getD}
 use borrow.Author.Tests.{lt-ltb, le-ltb, leb-true, le-leb, lt-leb, eq-eqb, ne-eqb}
+use Rattle.octets.proofs.Cases.{both}
 use Rattle.rows.proofs.Cases.{compare}
 use Rattle.ledger.specs.Ledgers.{rowKeeps, placeEmpty, placeKeeps, allBelow, keepsRules}
 use Rattle.ledger.specs.declared.Ledger.{Ledger}
-
--- two tests hold
-pub both : (a b : Bool) → (a && b) ≡ true → (a ≡ true) × (b ≡ true)
-both true b h = (refl, h)
-both false b h = absurd (true≢false (sym h))
 
 -- One place
 

@@ -1,15 +1,11 @@
 -- Case distinction by tests: each case is given what the test told. Assumes nothing.
-use mathlib.Core.Bool.{Bool, true, false, _||_, true≢false}
+use mathlib.Core.Bool.{Bool, true, false, _||_}
 use mathlib.Core.Path.{_≡_, refl}
 use Prim.Native.Nat.{ℕ, _<_}
 use native.Mathlib.Omega.{arith}
 use lib.Dec.{ltb, eqb}
 use borrow.Author.Tests.{ltb-true, ltb-false, eqb-true, eqb-false}
-
--- a test holds or fails
-pub test : {P : Type 0} (b : Bool) → (b ≡ true → P) → (b ≡ false → P) → P
-test true holds fails = holds refl
-test false holds fails = fails refl
+use Rattle.octets.proofs.Cases.{test}
 
 -- one number is less than another, equal to it, or more
 pub compare : {P : Type 0} (a b : ℕ) → (a < b → P) → (a ≡ b → P) → (b < a → P) → P
@@ -21,8 +17,3 @@ compare a b less same more =
 pub either : {P : Type 0} (a b : Bool) → (a || b) ≡ true → (a ≡ true → P) → (b ≡ true → P) → P
 either true b h first second = first refl
 either false b h first second = second h
-
--- of two tests none holds
-pub neither : (a b : Bool) → (a || b) ≡ false → (a ≡ false) × (b ≡ false)
-neither true b h = absurd (true≢false h)
-neither false b h = (refl, h)

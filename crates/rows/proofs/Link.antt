@@ -7,11 +7,12 @@ use native.Mathlib.Omega.{arith}
 use lib.Dec.{leb, eqb}
 use lib.ListN.{length}
 use borrow.Author.Tests.{le-ltb, eqb-true, eqb-false}
+use Rattle.octets.proofs.Cases.{test}
 use Rattle.rows.specs.Rows.{Row, Entry, rowOf, has, lifeOf}
 use Rattle.rows.specs.Posting.{Report, refused, counts, entries, allEntries, names, rowsFor, addEntry, addAll, passes, postRows}
 use Rattle.rows.specs.Posting.{answers, after, Sorted, Room}
 use Rattle.rows.specs.Order.{report, inOrder, upto}
-use Rattle.rows.proofs.Cases.{test, either}
+use Rattle.rows.proofs.Cases.{either}
 use Rattle.rows.proofs.Numbers.{read-upto}
 use Rattle.rows.proofs.Traces.{ends, says}
 use Rattle.rows.proofs.Rows.{no-longer, add-append, sorted-add, sorted-all, row-own, row-other, row-all, has-all, length-all}

@@ -10,10 +10,10 @@ use lib.ListN.{length}
 use borrow.Author.Tests.{eq-eqb}
 use Rattle.octets.specs.Choice.{pick}
 use Rattle.octets.specs.Refusals.{lifePasses}
+use Rattle.octets.proofs.Cases.{test, neither}
 use Rattle.rows.specs.Rows.{Row, Entry, lifeOf, orNew}
 use Rattle.rows.specs.Posting.{Report, refused, counts, entries, names, ofKey, tally}
 use Rattle.rows.specs.Order.{Shares, report, Order, answersInOrder, upto}
-use Rattle.rows.proofs.Cases.{test, neither}
 use Rattle.rows.proofs.Traces.{ends, says, reorder}
 
 -- the row of each key, if there is one

@@ -8,8 +8,8 @@ use lib.Dec.{ltb, eqb, leb·suc-suc, leb·zero, leb·suc-zero, eqb·zero-suc, eq
 use lib.ListN.{length, getD}
 use borrow.Author.Tests.{eq-eqb, ne-eqb, eqb-true, ltb-true}
 use Rattle.octets.specs.Choice.{pick}
+use Rattle.octets.proofs.Cases.{test}
 use Rattle.rows.specs.Order.{times, place, upto}
-use Rattle.rows.proofs.Cases.{test}
 
 -- A number t put in front of a list
 

@@ -10,11 +10,11 @@ use lib.ListN.{length}
 use borrow.Author.Tests.{ltb-false, leb-false, eqb-true}
 use Rattle.octets.specs.Choice.{pick}
 use Rattle.octets.specs.Refusals.{noRoom, lifePasses}
+use Rattle.octets.proofs.Cases.{test, neither}
 use Rattle.rows.specs.Rows.{Row, Entry, newRow, rowOf, lifeOf, orNew}
 use Rattle.rows.specs.Posting.{Report, refused, counts, entries, rowsFor, Posted, posted, addEntry, addAll, passes, postRows}
 use Rattle.rows.specs.Posting.{answers, after, tally, ofKey, accepted, Sorted, Each, Good}
 use Rattle.rows.specs.Claims.{RowRule}
-use Rattle.rows.proofs.Cases.{test, neither}
 use Rattle.rows.proofs.Rows.{tail-row, head-row, before-none, add-cases, sorted-add, sorted-all, row-own, row-all, rows-step}
 
 -- a counter's own entries, of one list after another

@@ -9,9 +9,10 @@ use lib.Dec.{eqb}
 use lib.ListN.{length}
 use borrow.Author.Tests.{lt-ltb, le-ltb, eq-eqb, ne-eqb, eqb-true, eqb-false}
 use Rattle.octets.specs.Choice.{pick}
+use Rattle.octets.proofs.Cases.{test}
 use Rattle.rows.specs.Rows.{Row, Entry, newRow, rowOf, has, orNew}
 use Rattle.rows.specs.Posting.{names, newKeys, rowsFor, addEntry, addAll, Above, Sorted, ofKey, tally}
-use Rattle.rows.proofs.Cases.{test, compare}
+use Rattle.rows.proofs.Cases.{compare}
 
 -- The row of a key
 

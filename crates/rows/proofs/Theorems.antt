@@ -6,11 +6,11 @@ use native.Mathlib.Omega.{arith}
 use lib.Dec.{leb, eqb}
 use lib.ListN.{length}
 use borrow.Author.Tests.{leb-true}
+use Rattle.octets.proofs.Cases.{test}
 use Rattle.rows.specs.Rows.{Row, Entry, addUp, rowOf, lifeOf}
 use Rattle.rows.specs.Posting.{Report, entries, ofKey, Good}
 use Rattle.rows.specs.Order.{Order, inOrder, answersInOrder, upto}
 use Rattle.rows.specs.Claims.{AnyOrder, RowRule, AllOrNothing, NeverFalls, StaysGood}
-use Rattle.rows.proofs.Cases.{test}
 use Rattle.rows.proofs.Numbers.{times-upto, place-upto}
 use Rattle.rows.proofs.Rows.{same-rows, row-all}
 use Rattle.rows.proofs.Maps.{map-order}

@@ -9,8 +9,8 @@ use lib.Dec.{ltb, eqb}
 use lib.ListN.{getD}
 use borrow.Author.Tests.{eq-eqb, ne-eqb, eqb-true, eqb-false}
 use Rattle.octets.specs.Choice.{pick}
+use Rattle.octets.proofs.Cases.{test}
 use Rattle.rows.specs.Order.{times, place, upto}
-use Rattle.rows.proofs.Cases.{test}
 use Rattle.rows.proofs.Numbers.{times-head, times-tail, times-more, place-head, place-tail, empty, map-same}
 use Rattle.rows.proofs.Numbers.{without, times-own, times-other, place-other, times-upto, within-upto, place-upto, at-upto}
 

@@ -1,13 +1,14 @@
 -- A run over the front of a buffer: what was held, and what came behind it. Assumes nothing.
 use mathlib.Core.Bool.{Bool}
-use mathlib.Core.List.{List, [], _∷_, _++_}
+use mathlib.Core.List.{List, _++_}
 use mathlib.Core.Path.{_≡_, sym, ap, _∙_, subst}
-use Prim.Native.Nat.{ℕ, zero, suc, _+_, _-_, _≤_, _<_}
+use Prim.Native.Nat.{ℕ, _+_, _-_, _≤_, _<_}
 use native.Mathlib.Omega.{arith}
 use lib.Dec.{eqb}
 use lib.ListN.{length, take, drop, length-drop}
-use lib.Seq.{take-add, length-take-le, getD-drop}
+use lib.Seq.{take-add, length-take-le}
 use Rattle.octets.specs.Numbers.{Octets}
+use Rattle.octets.proofs.Parts.{Octets-drop, Octets-take}
 use Rattle.ledger.specs.Ledgers.{rowsOf, ledgerOf}
 use Rattle.ledger.specs.declared.Ledger.{Ledger}
 use Rattle.feed.specs.Runs.{State, state, Run, runOver, doneOf}
@@ -43,12 +44,6 @@ module _ (buffer : List ℕ) (end : ℕ) (fits : end ≤ length buffer) where
 
 -- What came
 
-octets-take : (n : ℕ) (s : List ℕ) → Octets s → Octets (take n s)
-octets-take zero s o i = omega arith
-octets-take (suc n) [] o i = omega arith
-octets-take (suc n) (x ∷ s) o zero = o 0
-octets-take (suc n) (x ∷ s) o (suc i) = octets-take n s (λ j. o (suc j)) i
-
 -- a buffer before a read and after it
 module _ (before buffer : List ℕ) (held n : ℕ) where
   -- what came lies in the buffer
@@ -67,7 +62,7 @@ module _ (before buffer : List ℕ) (held n : ℕ) where
       let many : n ≡ length t = sym (length-take-le n (drop held buffer) (omega (arith, length-drop held buffer))) in
       record {
         came = t;
-        octets = octets-take n (drop held buffer) (λ i. rw getD-drop (o (held + i)));
+        octets = Octets-take n (drop held buffer) (Octets-drop held buffer o);
         ran =
             subst (λ k. Ran (take held before ++ t) (runOver (take held before ++ t) (eqb k 0) (state (rowsOf l₀) t₀)) out l now) many
             (subst (λ u. Ran u (runOver u (eqb n 0) (state (rowsOf l₀) t₀)) out l now) both r);

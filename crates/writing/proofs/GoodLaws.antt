@@ -10,9 +10,9 @@ use lib.Dec.{leb}
 use lib.ListN.{length, getD, take, length-append}
 use Rattle.octets.specs.Numbers.{Octets, number}
 use Rattle.octets.proofs.Numbers.{number-lt}
+use Rattle.octets.proofs.Parts.{Octets-drop, Octets-take}
 use Rattle.layouts.specs.Formats.{Answer, refused, got}
 use Rattle.layouts.specs.Categories.{Category, known, category}
-use Rattle.layouts.proofs.Formats.{Octets-drop}
 use Rattle.layouts.proofs.Windows.{window, behind, window-long}
 use Rattle.blocks.specs.Records.{Rec, putRec}
 use Rattle.blocks.specs.Blocks.{all, blockOf, putRecs}
@@ -22,7 +22,6 @@ use Rattle.blocks.specs.Headers.{headerOf}
 use Rattle.blocks.specs.Walks.{answerOf, readOf}
 use Rattle.blocks.specs.declared.header.Head.{Head}
 use Rattle.blocks.specs.declared.walk.Reading.{Reading}
-use Rattle.blocks.proofs.BlockLaws.{Octets-take}
 use Rattle.blocks.proofs.RecordTheorems.{normal-short}
 use Rattle.blocks.proofs.WindowLaws.{record-at}
 use Rattle.blocks.proofs.ReadSteps.{record-within}

@@ -1,6 +1,6 @@
 -- The specification of a typed record, written: seven marks to a number, up to the last that marks something. Assumes nothing.
 use mathlib.Core.Path.{_≡_, refl, sym, ap, _∙_}
-use mathlib.Core.Bool.{Bool, true, false, _&&_, _||_, true≢false}
+use mathlib.Core.Bool.{Bool, true, false, _&&_}
 use mathlib.Core.List.{List, [], _∷_, _++_, append-assoc}
 use Prim.Native.Nat.{ℕ, zero, suc, _+_, _-_, _*_, _/_, _%_, _^_, _≤_, _<_}
 use native.Mathlib.Nat.{zero-add, suc-add, pow-suc, div-div-eq-div-mul, div-lt-iff-lt-mul, zero-lt-suc, lt-of-lt-of-le, pow-le-pow-right}
@@ -14,6 +14,7 @@ use Rattle.octets.specs.Choice.{pick, odd}
 use Rattle.octets.specs.Numbers.{laid}
 use Rattle.octets.specs.Refusals.{spareMarked, noneMarked}
 use Rattle.octets.proofs.Laying.{laid-laid}
+use Rattle.octets.proofs.Cases.{neither}
 use Rattle.layouts.specs.Tables.{layout}
 use Rattle.layouts.specs.Categories.{Category, known, category}
 use Rattle.layouts.specs.declared.form.Form.{Form}
@@ -208,10 +209,6 @@ flags-more zero k m l =
 flags-more (suc n) k m l =
     let s : m / 2 < 2 ^ n = div-lt-iff-lt-mul {k = 2} (zero-lt-suc 1) .1 (rw pow-suc at l) in
     rw (suc-add n k, flags-more n k (m / 2) s)
-
-neither : (a b : Bool) → (a || b) ≡ false → (a ≡ false) × (b ≡ false)
-neither true b h = absurd (true≢false h)
-neither false b h = (refl, h)
 
 -- no field past the last is marked
 spare-small : (n m : ℕ) (fs : List Form) → m < 2 ^ n → marksSpare (flagsOf n m) fs ≡ false → m < 2 ^ length fs

@@ -7,8 +7,8 @@ use native.Mathlib.Omega.{arith}
 use borrow.Author.Needs.{needs}
 use borrow.Author.Tests.{eqb-true, eq-eqb, ne-eqb}
 use Rattle.octets.specs.Choice.{odd}
+use Rattle.octets.proofs.Cases.{choose}
 use Rattle.blocks.specs.Marks.{hasAll}
-use Rattle.layouts.proofs.Answers.{choose}
 use Rattle.blocks.proofs.presence.has_all.Statement.{statement}
 use Rattle.blocks.proofs.presence.has_all.Tie as tie
 

@@ -5,7 +5,7 @@ use native.Mathlib.Omega.{arith}
 use lib.Dec.{leb, ltb}
 use borrow.Author.Needs.{needs}
 use borrow.Author.Tests.{leb-true, leb-false, lt-ltb, le-ltb}
-use Rattle.rows.proofs.Cases.{test}
+use Rattle.octets.proofs.Cases.{test}
 use Rattle.ledger.proofs.sums.is_past.Statement.{statement}
 use Rattle.ledger.proofs.sums.is_past.Tie as tie
 
