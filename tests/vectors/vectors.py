@@ -22,8 +22,7 @@ FIELDS = {
     242: {1: '010', 2: 'time', 3: 'entries', 6: 'SP', 7: 'RE'},
 }
 
-# A value that is wider than its place in the typed record cannot be said; item 110 has no extension there.
-WIDEST = {'time': 2 ** 32 - 1, 'first': 2 ** 64 - 1, 'n': 2 ** 64 - 1}
+# Item 110 has no extension, and so no cell for one.
 NO_EXTENSION = ('110', 'ext')
 
 # The room of an output that is large enough for any block.
@@ -62,14 +61,14 @@ def values_of(record):
     return {(items[int(field)], name): value for field, named in record['fields'].items() for name, value in named.items()}
 
 
-def is_held(record):
-    """Whether the typed record can hold each value."""
-    return all(value <= (0 if cell == NO_EXTENSION else WIDEST.get(cell[1], 255)) for cell, value in values_of(record).items())
+def is_said(record):
+    """Whether each value has a cell."""
+    return values_of(record).get(NO_EXTENSION, 0) == 0
 
 
 def record_cells(record):
     """Category, marks (bit f - 1 for field f) and all cells; zero where the stored record has nothing."""
-    must(is_held(record), 'no record holds %s' % record)
+    must(is_said(record), 'no cells for %s' % record)
     marks, values = sum(1 << (int(field) - 1) for field in record['fields']), values_of(record)
     return numbers([record['cat'], marks] + [values.get(cell, 0) for cell in CELLS])
 
@@ -143,10 +142,10 @@ def feed_cases():
 
 
 def is_sayable(case):
-    """A record that no typed record holds cannot be handed over; its answer has to be 11."""
-    if case['op'] != 'write' or is_held(case['record']):
+    """A record with a value that has no cell cannot be handed over; its answer has to be 11."""
+    if case['op'] != 'write' or is_said(case['record']):
         return True
-    must(case['number'] == 11 and case['out'] == '', 'a value that is too wide gets %d' % case['number'])
+    must(case['number'] == 11 and case['out'] == '', 'a value without a cell gets %d' % case['number'])
     return False
 
 
@@ -178,7 +177,7 @@ def judge(path):
                 differ += 1
                 print('%s\n  expected %.400s\n  wrote    %.400s' % (line, expected, wrote[at]))
             at += 1
-        note = ' (%d have a value that the typed record cannot hold)' % left_out if left_out else ''
+        note = ' (%d have a value that has no cell)' % left_out if left_out else ''
         print('%s: %d cases, %d differences%s' % (op, len(cases), differ, note))
         wrong += differ
     return 1 if wrong else 0

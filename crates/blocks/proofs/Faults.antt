@@ -15,7 +15,7 @@ use Rattle.octets.specs.Numbers.{Octets, number}
 use Rattle.octets.proofs.Cases.{choose, both}
 use Rattle.layouts.specs.Formats.{Answer, refused, got, andThen, Format, Trace, fitsIn}
 use Rattle.layouts.specs.Offsets.{runAt, itemAt}
-use Rattle.layouts.specs.Layouts.{Layout, unused, fixed, extended, repeated, explicit, format, kindOf}
+use Rattle.layouts.specs.Layouts.{Layout, unused, fixed, extended, repeated, explicit, isUnused, format, kindOf}
 use Rattle.layouts.specs.Ends.{endOf, roomEnd, countedEnd, chainEnd, kindEnd}
 use Rattle.layouts.specs.Tables.{layout}
 use Rattle.layouts.specs.Categories.{Category, known}
@@ -27,7 +27,6 @@ use Rattle.layouts.specs.declared.ends.Kind.{Kind}
 use Rattle.layouts.specs.declared.ends.Kind.the-variants.{Spare, Fixed, Extended, Repeated, Explicit}
 use Rattle.layouts.specs.declared.form.Form.{Form}
 use Rattle.blocks.specs.Headers.{headerOf}
-use Rattle.blocks.specs.Records.{isUnused}
 use Rattle.blocks.specs.Offsets.{specsAt}
 use Rattle.blocks.specs.Faults.{TooShort, Unknown, LenLow, FxSet, Passes, NoCount, PastLast, OutOfRange, Long, Cut}
 use Rattle.blocks.specs.declared.header.Head.{Head}

@@ -1,8 +1,8 @@
 -- Where the items of a record start: each behind those before it, as many octets on as these have. Assumes nothing.
-use mathlib.Core.Path.{_≡_, refl, sym}
+use mathlib.Core.Path.{_≡_, refl, sym, _∙_}
 use mathlib.Core.List.{List, [], _∷_}
 use mathlib.Core.Bool.{Bool, true, false}
-use Prim.Native.Nat.{ℕ, zero, suc, _+_, _-_, _<_}
+use Prim.Native.Nat.{ℕ, zero, suc, _+_, _-_, _<_, _≤_}
 use native.Mathlib.Nat.{add-zero, add-assoc}
 use native.Mathlib.Omega.{arith}
 use lib.Dec.{ltb}
@@ -33,6 +33,13 @@ formats-at (b ∷ bs) [] n h = go (getD (b ∷ bs) n false) h
     go false h = refl
 formats-at (b ∷ bs) (f ∷ fs) zero h = refl
 formats-at (b ∷ bs) (f ∷ fs) (suc n) h = formats-at bs fs n (λ e. omega (arith, h e))
+
+-- there are no more formats than fields
+pub formats-few : (bs : List Bool) (fs : List Form) → length (formats bs fs) ≤ length fs
+unfolding formats
+formats-few [] fs = omega arith
+formats-few (b ∷ bs) [] = omega arith
+formats-few (b ∷ bs) (f ∷ fs) = omega (arith, formats-few bs fs)
 
 -- where item n of those from an offset starts
 abbrev pub startIn : List Format → List Trace → ℕ → ℕ → ℕ
@@ -85,3 +92,23 @@ module _ (s : List ℕ) (len : ℕ) where
           rw (start-first (f ∷ fs) (tr ∷ trs) at, start-next f fs tr trs at 0, ← l, start-first fs trs p) e
       go tr p trs q l e e' ih (suc n) =
           rw (start-next f fs tr trs at n, start-next f fs tr trs at (suc n), ← l) (ih n)
+
+  none-start : (at n : ℕ) → startIn [] [] at n ≡ at
+  unfolding putItems
+  none-start at zero = add-zero at
+  none-start at (suc n) = add-zero at
+
+  -- behind the last item is where they were read to
+  pub items-end : (fs : List Format) (at q : ℕ) (trs : List Trace) → itemsAt s len fs at ≡ got trs q → (n : ℕ) → length fs ≤ n → startIn fs trs at n ≡ q
+  unfolding itemsAt
+  items-end [] at q trs h n l =
+      let is : [] ≡ trs = cc in
+      let same : at ≡ q = cc in
+      rw (← is, ← same) (none-start at n)
+  items-end (f ∷ fs) at q trs h zero l = absurd (omega arith)
+  items-end (f ∷ fs) at q trs h (suc n) l =
+      let (tr, p, e, h') = through (itemAt s len f at) h in
+      let (trs', q', e', last) = through (itemsAt s len fs p) h' in
+      let is : tr ∷ trs' ≡ trs = cc in
+      let same : q' ≡ q = cc in
+      rw (← is, start-next f fs tr trs' at n, ← run-long f at tr p (item-run s len f at p tr e)) (items-end fs p q' trs' e' n (omega arith) ∙ same)

@@ -22,3 +22,4 @@ pub mod SameAnswers
 pub mod AtEnd
 pub mod RecordStarts
 pub mod TakenLaws
+pub mod SeenLaws

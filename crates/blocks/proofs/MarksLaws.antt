@@ -1,17 +1,18 @@
 -- Marks as a number and marks as seven to a number are the same marks. Assumes nothing.
-use mathlib.Core.Path.{_≡_, refl, ap, subst}
-use mathlib.Core.Bool.{Bool, true, false}
+use mathlib.Core.Path.{_≡_, refl, sym, ap, ap₂, _∙_, subst}
+use mathlib.Core.Bool.{Bool, true, false, _&&_, not}
 use mathlib.Core.List.{List, [], _∷_, _++_}
-use Prim.Native.Nat.{ℕ, zero, suc, _+_, _-_, _*_, _/_, _%_, _^_, _≤_, _<_}
+use Prim.Native.Nat.{ℕ, zero, suc, _+_, _-_, _*_, _/_, _%_, _^_, _≤_, _<_, min}
 use native.Mathlib.Nat.{zero-mul, zero-add, suc-add, add-zero, mod-eq-of-lt, div-one, div-div-eq-div-mul, pow-succ', div-lt-iff-lt-mul}
 use native.Mathlib.Omega.{arith}
 use borrow.Author.Tests.{leb-false, eqb-true, eqb-false, eq-eqb, ne-eqb}
+use lib.Bits.{bitAnd, and-step}
 use lib.Dec.{leb, eqb, lit<, eqb·suc-zero}
 use lib.ListN.{length, getD, replicate, length-replicate}
 use Rattle.octets.specs.Choice.{pick, odd}
 use Rattle.octets.specs.Numbers.{Octets}
 use Rattle.octets.specs.Refusals.{longSpecification}
-use Rattle.octets.proofs.Cases.{choose}
+use Rattle.octets.proofs.Cases.{test, choose}
 use Rattle.layouts.specs.Formats.{Answer, refused, got, andThen}
 use Rattle.layouts.specs.Ends.{endOf, chainEnd}
 use Rattle.layouts.specs.declared.form.Form.{Form}
@@ -25,7 +26,7 @@ use Rattle.blocks.specs.Offsets.{specsAt}
 use Rattle.blocks.proofs.RecordLaws.{zeros-replicate}
 
 -- a mark as a number is the low bit that it tests
-bit : (x : ℕ) → pick (odd x) 1 0 ≡ x % 2
+pub bit : (x : ℕ) → pick (odd x) 1 0 ≡ x % 2
 bit x =
     choose (λ (n : ℕ). n ≡ x % 2) (odd x)
     (λ e. omega (arith, eqb-true (x % 2) 1 e))
@@ -50,9 +51,31 @@ flags-at (suc n) m zero h = rw div-one
 flags-at (suc n) m (suc i) h = rw (flags-at n (m / 2) i (omega arith), div-div-eq-div-mul, pow-succ')
 
 -- a mark in front: it is the low bit, and the others are the half
-first-mark : (b : Bool) (m : ℕ) → (odd (pick b 1 0 + m * 2) ≡ b) × ((pick b 1 0 + m * 2) / 2 ≡ m)
+pub first-mark : (b : Bool) (m : ℕ) → (odd (pick b 1 0 + m * 2) ≡ b) × ((pick b 1 0 + m * 2) / 2 ≡ m)
 first-mark true m = (eq-eqb ((1 + m * 2) % 2) 1 (omega arith), omega arith)
 first-mark false m = (ne-eqb ((0 + m * 2) % 2) 1 (λ e. omega arith), omega arith)
+
+-- tests of two equalities that say the same
+same-test : (p q x y : ℕ) → (p ≡ q → x ≡ y) → (x ≡ y → p ≡ q) → eqb p q ≡ eqb x y
+same-test p q x y to from =
+    test (eqb x y) (λ e. eq-eqb p q (from (eqb-true x y e)) ∙ sym e) (λ e. ne-eqb p q (λ h. eqb-false x y e (to h)) ∙ sym e)
+
+-- marks are the same where the first is, and the others
+pub same-marks : (a b : Bool) (x y : ℕ) → eqb (pick a 1 0 + x * 2) (pick b 1 0 + y * 2) ≡ (pick b a (not a) && eqb x y)
+same-marks true true x y = same-test (1 + x * 2) (1 + y * 2) x y (λ e. omega arith) (λ e. omega arith)
+same-marks true false x y = ne-eqb (1 + x * 2) (0 + y * 2) (λ e. omega arith)
+same-marks false true x y = ne-eqb (0 + x * 2) (1 + y * 2) (λ e. omega arith)
+same-marks false false x y = same-test (0 + x * 2) (0 + y * 2) x y (λ e. omega arith) (λ e. omega arith)
+
+-- the marks that two numbers have in common: the first, and the others
+pub common : (m k : ℕ) → bitAnd m k ≡ pick (odd m && odd k) 1 0 + bitAnd (m / 2) (k / 2) * 2
+common m k = and-step m k ∙ rw (ap₂ min (sym (bit m)) (sym (bit k)) ∙ go (odd m) (odd k)) (omega arith)
+  where
+    go : (a b : Bool) → min (pick a 1 0) (pick b 1 0) ≡ pick (a && b) 1 0
+    go true true = refl
+    go true false = refl
+    go false true = refl
+    go false false = refl
 
 -- marks as a number and back
 flags-marks : (bs : List Bool) (n : ℕ) → flagsOf (length bs + n) (marksOf bs) ≡ bs ++ replicate n false
@@ -133,11 +156,9 @@ no-mark g l e =
 -- the number is 0 exactly where nothing is marked
 none-cons : (g : ℕ) (gs : List ℕ) → g < 128 → eqb (marksOf (flags gs)) 0 ≡ zeros gs → eqb (marksOf (flags (g ∷ gs))) 0 ≡ zeros (g ∷ gs)
 unfolding zeros
-none-cons zero gs l h = rw (marks-cons 0 gs, marks-one 0, ← h) (go (marksOf (flags gs)))
-  where
-    go : (m : ℕ) → eqb (m * 128 + 0) 0 ≡ eqb m 0
-    go zero = refl
-    go (suc m) = rw (eqb·suc-zero m) (ne-eqb (suc m * 128 + 0) 0 (λ e. omega arith))
+none-cons zero gs l h =
+    let m = marksOf (flags gs) in
+    rw (marks-cons 0 gs, marks-one 0, ← h) (same-test (m * 128 + 0) 0 m 0 (λ e. omega arith) (λ e. omega arith))
 none-cons (suc g) gs l h =
     rw (eqb·suc-zero g)
     (ne-eqb (marksOf (flags (suc g ∷ gs))) 0 (λ e. omega (arith, no-mark (suc g) l (omega (arith, marks-cons (suc g) gs)))))

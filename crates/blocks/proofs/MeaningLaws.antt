@@ -14,7 +14,7 @@ use Rattle.octets.proofs.Cases.{choose, both}
 use Rattle.layouts.specs.Groups.{values, Group}
 use Rattle.layouts.specs.Formats.{Answer, refused, got, andThen, Format, done, ask, Trace, fitsIn}
 use Rattle.layouts.specs.Offsets.{runAt, itemAt}
-use Rattle.layouts.specs.Layouts.{Layout, unused, fixed, extended, repeated, explicit, chain, counted, format}
+use Rattle.layouts.specs.Layouts.{Layout, unused, fixed, extended, repeated, explicit, isUnused, chain, counted, format}
 use Rattle.layouts.specs.Tables.{layout}
 use Rattle.layouts.specs.Categories.{Category, known, category}
 use Rattle.layouts.specs.declared.form.Form.{Form}
@@ -25,7 +25,7 @@ use Rattle.items.specs.declared.typed.Item.{Item}
 use Rattle.items.proofs.Items.{typed-trace}
 use Rattle.blocks.specs.Specification.{flags}
 use Rattle.blocks.specs.Marks.{marksOf, flagsOf}
-use Rattle.blocks.specs.Records.{Rec, formats, isUnused, layoutOf}
+use Rattle.blocks.specs.Records.{Rec, formats, layoutOf}
 use Rattle.blocks.specs.Offsets.{specsAt, itemsAt, recordAt}
 use Rattle.blocks.specs.Typed.{typed, fieldFor, placeIn, valuesFor, startFor, typedRec}
 use Rattle.blocks.specs.Steps.{itemsFrom}

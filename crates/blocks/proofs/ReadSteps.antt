@@ -2,7 +2,7 @@
 -- in. Assumes nothing.
 use mathlib.Core.Path.{_≡_, refl, sym, _∙_, subst}
 use mathlib.Core.Bool.{Bool, true, false}
-use mathlib.Core.List.{List, [], _∷_}
+use mathlib.Core.List.{List, []}
 use Prim.Native.Nat.{ℕ, zero, suc, _+_, _-_, _≤_, _<_}
 use native.Mathlib.Nat.{zero-add, add-zero, sub-zero}
 use native.Mathlib.Omega.{arith}
@@ -11,11 +11,9 @@ use lib.Dec.{leb, eqb}
 use lib.ListN.{length}
 use Rattle.octets.specs.Numbers.{Octets}
 use Rattle.octets.specs.Refusals.{presenceBroken}
-use Rattle.layouts.specs.Formats.{Answer, refused, got, Format, Trace}
-use Rattle.layouts.specs.Offsets.{itemAt}
+use Rattle.layouts.specs.Formats.{Answer, refused, got, Trace}
 use Rattle.layouts.specs.Categories.{Category}
 use Rattle.layouts.proofs.Answers.{pick-yes, through}
-use Rattle.layouts.proofs.Windows.{run-within}
 use Rattle.blocks.specs.Records.{Rec, layoutOf, marksRefusal, present}
 use Rattle.blocks.specs.Blocks.{Block, wrong, all, with}
 use Rattle.blocks.specs.Offsets.{specsAt, itemsAt, recordAt, firstAt, recordsAt}
@@ -25,7 +23,7 @@ use Rattle.blocks.specs.declared.walk.Walked.the-variants as walked
 use Rattle.blocks.specs.declared.walk.Reading.{Reading}
 use Rattle.blocks.specs.declared.walk.Reading.the-variants as reading
 use Rattle.blocks.proofs.MarksLaws.{specs-marked}
-use Rattle.blocks.proofs.WalkSteps.{item-run, run-none, run-one, run-end}
+use Rattle.blocks.proofs.WalkSteps.{items-within, run-none, run-one, run-end}
 
 -- an answer with so many records more
 abbrev counted : ℕ → Reading → Reading
@@ -68,23 +66,12 @@ module _ (s : List ℕ) (len : ℕ) (c : Category) (at : ℕ) where
       same-parts gs trs p q' q r end e e' z y
 
 module _ (s : List ℕ) (len : ℕ) (c : Category) where
-  items-within : (fs : List Format) (at q : ℕ) (trs : List Trace) → at ≤ len → itemsAt s len fs at ≡ got trs q → (at ≤ q) × (q ≤ len)
-  unfolding itemsAt
-  items-within [] at q trs l h = let e : at ≡ q = cc in (omega arith, omega arith)
-  items-within (f ∷ fs) at q trs l h =
-      let (tr, p, e, h') = through (itemAt s len f at) h in
-      let (trs', q', e', last) = through (itemsAt s len fs p) h' in
-      let same : q' ≡ q = cc in
-      let (a, b) = run-within s len f at tr p l (item-run s len f at p tr e) in
-      let (a', b') = items-within fs p q' trs' b e' in
-      (omega arith, omega arith)
-
   -- a record has an octet at least, and lies within the block
   pub record-within : Octets s → (at q : ℕ) (r : Rec) → recordAt s len c at ≡ got r q → (at < q) × (q ≤ len)
   record-within o at q r h =
       let (p, e, e', z, y) = record-parts s len c at q r h in
       let w = specs-marked s len (c .most - 1) at (r .marks) p o e in
-      let (a, b) = items-within (layoutOf c (r .marks)) p q (r .items) (w .within) e' in
+      let (a, b) = items-within s len (layoutOf c (r .marks)) p q (r .items) (w .within) e' in
       (omega arith, omega arith)
 
   pub records-end : (m at : ℕ) → len ≤ at → recordsAt s len c m at ≡ all (c .number) []

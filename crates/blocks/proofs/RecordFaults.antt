@@ -14,14 +14,14 @@ use Rattle.octets.specs.Numbers.{Octets}
 use Rattle.octets.proofs.Cases.{choose}
 use Rattle.layouts.specs.Formats.{Answer, refused, got, andThen, Format, done, Trace, fitsIn}
 use Rattle.layouts.specs.Offsets.{runAt, itemAt}
-use Rattle.layouts.specs.Layouts.{format, kindOf}
+use Rattle.layouts.specs.Layouts.{isUnused, format, kindOf}
 use Rattle.layouts.specs.Tables.{layout}
 use Rattle.layouts.specs.Categories.{Category, formAt, layoutAt}
 use Rattle.layouts.proofs.Answers.{through}
 use Rattle.layouts.specs.declared.form.Form.{Form}
 use Rattle.blocks.specs.Specification.{zeros, flags}
 use Rattle.blocks.specs.Marks.{marksOf}
-use Rattle.blocks.specs.Records.{formats, isUnused, marksSpare, layoutOf, marksRefusal, present}
+use Rattle.blocks.specs.Records.{formats, marksSpare, layoutOf, marksRefusal, present}
 use Rattle.blocks.specs.Offsets.{specsAt, itemsAt, recordAt}
 use Rattle.blocks.specs.Faults.{Passes, NoCount, PastLast, OutOfRange, Marks, NoneMarked, SpareMarked, Long, Cut, Read, GoodMarks, Faulty, Broken}
 use Rattle.blocks.proofs.MarksLaws.{specs-marked}

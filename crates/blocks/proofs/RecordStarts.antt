@@ -43,7 +43,7 @@ module _ (s : List ℕ) (len : ℕ) (c : Category) (marks at : ℕ) where
   }
 
   -- behind one field more: the end of its item, if it is marked
-  behind-next : (p f : ℕ) → 1 ≤ f → p ≡ behind s len c marks at (f - 1)
+  pub behind-next : (p f : ℕ) → 1 ≤ f → p ≡ behind s len c marks at (f - 1)
       → behind s len c marks at (f + 1 - 1) ≡ pick (marked s len c marks at f) (endFrom p (kindEnd s len (kindOf (layoutAt c f)) p)) p
   unfolding behind
   behind-next p zero l h = absurd (omega arith)

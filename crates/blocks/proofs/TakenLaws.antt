@@ -1,9 +1,9 @@
--- What every record has that a step hands out, four bits of SID and of STYP and entries that lie in the octets; and the steps of an accepted block.
+-- What every record has that a step hands out, four bits of SID and of STYP; and the steps of an accepted block.
 -- Assumes nothing.
 use mathlib.Core.Path.{_≡_, refl, sym, ap, _∙_, subst}
 use mathlib.Core.Bool.{true}
 use mathlib.Core.List.{List}
-use Prim.Native.Nat.{ℕ, _+_, _*_, _-_, _<_, _≤_}
+use Prim.Native.Nat.{ℕ, _-_, _<_, _≤_}
 use native.Mathlib.Nat.{mod-lt}
 use native.Mathlib.Omega.{arith}
 use lib.ListN.{length, getD}
@@ -18,7 +18,7 @@ use Rattle.items.specs.declared.typed.Service.{Service}
 use Rattle.blocks.specs.Headers.{headerOf}
 use Rattle.blocks.specs.Offsets.{specsAt}
 use Rattle.blocks.specs.Typed.{typedOf}
-use Rattle.blocks.specs.Steps.{typedBehind, takeOf, stepOf, entryGroupOf}
+use Rattle.blocks.specs.Steps.{typedBehind, takeOf, stepOf}
 use Rattle.blocks.specs.Walks.{readOf}
 use Rattle.blocks.specs.declared.header.Head.{Head}
 use Rattle.blocks.specs.declared.record.Record.{Record}
@@ -26,18 +26,14 @@ use Rattle.blocks.specs.declared.cursor.Cursor.{Cursor}
 use Rattle.blocks.specs.declared.cursor.Step.{Step}
 use Rattle.blocks.specs.declared.walk.Reading.{Reading}
 use Rattle.blocks.proofs.HeaderLaws.{header-good}
-use Rattle.blocks.proofs.TypedLaws.{typed-good, entries-within}
+use Rattle.blocks.proofs.TypedLaws.{typed-good}
 use Rattle.blocks.proofs.ReadSteps.{record-within}
-use Rattle.blocks.proofs.StepLaws.{Taking, take-took, step-took, step-inside}
+use Rattle.blocks.proofs.StepLaws.{Taking, step-took, step-inside}
 use Rattle.blocks.proofs.BoundaryLaws.{read-filled, step-end}
 
 -- four bits each
 abbrev pub Narrow : Service → Type 0
 Narrow x = (x .sid < 16) × (x .styp < 16)
-
--- the entries lie in the octets
-abbrev pub Room : List ℕ → Record → Type 0
-Room s t = t .entries .at + t .entries .count * entryGroupOf (t .category) .wide ≤ length s
 
 -- of octets, whatever they are: both are read from four bits
 typed-narrow : (s : List ℕ) (len number marks at : ℕ) → Narrow (typedOf s len number marks at .service)
@@ -56,22 +52,7 @@ module _ (s : List ℕ) (len number at : ℕ) (t : Record) (next : ℕ) (fit : l
       subst (λ (x : Record). Narrow (x .service)) (typed-good s len number at o fit k (w .r) next (w .is) ∙ sym (w .same))
       (behind-narrow s len number at (specsAt s len (category number .most - 1) at))
 
-  taking-room : Room s t
-  taking-room = let l = entries-within s len number at o fit k (w .r) next (w .is) t (w .same) in omega arith
-
--- what `take` asks of a block's octets, its end, its category and an offset
-abbrev pub Inside : List ℕ → ℕ → ℕ → ℕ → Type 0
-Inside s len number at = (at < len) × (len ≤ length s) × (known number ≡ true)
-
--- the same of a step inside a block, and of a step
-module _ (s : List ℕ) (len number at : ℕ) (t : Record) (c : Cursor) (w : Inside s len number at) (o : Octets s)
-    (h : Step.Taken t c ≡ takeOf s len number at) where
-  pub service-narrow : Narrow (t .service)
-  service-narrow = taking-narrow s len number at t (c .at) (w .1) (w .2) o (take-took s len number at t c (sym h))
-
-  pub take-room : Room s t
-  take-room = taking-room s len number at t (c .at) (w .1) (w .2) o (take-took s len number at t c (sym h))
-
+-- the same of a step
 pub step-narrow : (s : List ℕ) (start : ℕ) (t : Record) (c : Cursor) → Octets s → Step.Taken t c ≡ stepOf s start → Narrow (t .service)
 step-narrow s start t c o h =
     let w = step-took s start t c (sym h) in
@@ -86,10 +67,6 @@ module _ (s : List ℕ) (len n : ℕ) (o : Octets s) (h : readOf s ≡ Reading.A
   accepted-head =
       let (cat, rs, head, j, count, is) = read-filled s len n o h in
       head ∙ ap (λ c. Head.Good c len) (header-good s cat len head .is-cat)
-
-  -- what `take` asks of an offset below LEN
-  pub accepted-inside : (at : ℕ) → at < len → Inside s len (getD s 0 0) at
-  accepted-inside at l = let g = header-good s (getD s 0 0) len accepted-head in (l, g .fits, g .known)
 
   -- inside the block `take` is a step
   pub accepted-step : (at : ℕ) → 3 ≤ at → at < len → takeOf s len (getD s 0 0) at ≡ stepOf s at

@@ -1,5 +1,5 @@
 -- The typed record that is made by octets is the record that was read, and its entries lie within the block. Assumes nothing.
-use mathlib.Core.Path.{_≡_, refl, sym, ap, _∙_}
+use mathlib.Core.Path.{_≡_, refl, sym, ap, _∙_, subst}
 use mathlib.Core.Bool.{Bool, true, false, false≢true}
 use mathlib.Core.List.{List, [], _∷_}
 use Prim.Native.Nat.{ℕ, zero, suc, _+_, _*_, _-_, _<_, _≤_}
@@ -37,7 +37,7 @@ use Rattle.blocks.specs.declared.record.Record.{Record}
 use Rattle.blocks.proofs.AtEnd.{end-value, end-place}
 use Rattle.blocks.proofs.MarksLaws.{flags-32, flags-long, mark-more, specs-marked}
 use Rattle.blocks.proofs.WalkSteps.{item-run, table}
-use Rattle.blocks.proofs.ItemStarts.{startIn, formats-at, items-there}
+use Rattle.blocks.proofs.ItemStarts.{startIn, formats-at, formats-few, items-there, items-end}
 use Rattle.blocks.proofs.ReadSteps.{record-parts}
 
 -- The field of a form has that form
@@ -152,7 +152,7 @@ module _ (s : List ℕ) (len : ℕ) (c : Category) (gs : List ℕ) (p : ℕ) (tr
   start n = startIn (layoutOf c gs) trs p n
 
   -- the marks as a number are the marks that were read
-  mark-is : (n : ℕ) → marked s len c marks p (suc n) ≡ getD (flags gs) n false
+  pub mark-is : (n : ℕ) → marked s len c marks p (suc n) ≡ getD (flags gs) n false
   mark-is n =
       let e : suc n - 1 ≡ n = omega arith in
       rw (e, flags-32 gs few) (mark-more (flags gs) (32 - 7 * length gs) n)
@@ -195,6 +195,20 @@ module _ (s : List ℕ) (len : ℕ) (c : Category) (gs : List ℕ) (p : ℕ) (tr
       go : (b : Bool) → Stands n b → pick b (endFrom (start n) (kindEnd s len (kindOf (layoutAt c (suc n))) (start n))) (start n) ≡ start (suc n)
       go true h = rw (ends n h)
       go false h = sym (h .1)
+
+  -- behind the last field is where the items were read to
+  pub behind-end : behind s len c marks p (length (c .fields)) ≡ q
+  unfolding layoutOf
+  behind-end =
+      behind-start (length (c .fields))
+      ∙ items-end s len (layoutOf c gs) p q trs read (length (c .fields)) (formats-few (flags gs) (c .fields))
+
+  -- a marked item starts inside the octets
+  pub marked-inside : (n : ℕ) → getD (flags gs) n false ≡ true → behind s len c marks p n < length s
+  marked-inside n e =
+      let h : Stands n true = subst (Stands n) e (stands n) in
+      let room = end-room s len (getD (c .fields) n Form.Spare) (start n) (start (suc n)) (ends n h) (start-within n) in
+      rw (behind-start n) (omega arith)
 
   -- the item of a form, by its field's number
   held : (f : Form) (k : ℕ) → fieldFor (c .fields) f ≡ k

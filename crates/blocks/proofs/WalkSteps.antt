@@ -1,36 +1,37 @@
 -- One step of each walk: what the definitions say of the case that a branch of the code is in. Only these unfold them.
 -- Assumes nothing.
 use mathlib.Core.Path.{_≡_, refl, sym, ap, _∙_, subst}
-use mathlib.Core.Bool.{Bool, true, false, _||_, false≢true, true≢false}
+use mathlib.Core.Bool.{Bool, true, false, _&&_, _||_, false≢true, true≢false, and-false}
 use mathlib.Core.List.{List, [], _∷_, _++_}
 use Prim.Native.Nat.{ℕ, zero, suc, _+_, _-_, _*_, _≤_, _<_}
+use native.Mathlib.Nat.{zero-add, add-zero, suc-add, add-suc}
 use native.Mathlib.Omega.{arith}
 use borrow.Author.Tests.{eqb-true, lt-leb, le-leb, eq-eqb, ne-eqb}
-use lib.Dec.{leb, eqb}
-use lib.ListN.{length, getD, drop, replicate, drop-of-length-le}
-use lib.Seq.{drop-cons}
+use lib.Dec.{eqb}
+use lib.ListN.{length, getD, drop, replicate}
 use Rattle.octets.specs.Choice.{pick}
 use Rattle.octets.specs.Numbers.{Octets, number}
-use Rattle.octets.specs.Refusals.{longSpecification, presenceBroken}
+use Rattle.octets.specs.Refusals.{longSpecification, spareMarked, noneMarked, presenceBroken}
+use Rattle.octets.proofs.Cases.{choose, neither}
 use Rattle.layouts.specs.Groups.{values}
 use Rattle.layouts.specs.Formats.{Answer, refused, got, andThen, Format, done, Trace, fitsIn}
 use Rattle.layouts.specs.Offsets.{runAt, itemAt, traceAt}
-use Rattle.layouts.specs.Layouts.{format}
+use Rattle.layouts.specs.Layouts.{format, isUnused}
 use Rattle.layouts.specs.Ends.{endOf, chainEnd}
 use Rattle.layouts.specs.Tables.{layout}
-use Rattle.layouts.specs.Categories.{Category, known, category, formAt, fieldAt}
+use Rattle.layouts.specs.Categories.{Category, known, category}
 use Rattle.layouts.proofs.Answers.{pick-yes, through}
 use Rattle.layouts.proofs.Windows.{run-trace, run-within}
-use Rattle.layouts.specs.declared.category.Field.{Field}
+use Rattle.layouts.proofs.KindEnds.{end-then}
 use Rattle.layouts.specs.declared.ends.End.{End}
 use Rattle.layouts.specs.declared.ends.End.the-variants.{At, Refused}
 use Rattle.layouts.specs.declared.form.Form.{Form}
 use Rattle.blocks.specs.Specification.{flags}
 use Rattle.blocks.specs.Presence.{rowsOf, meets}
 use Rattle.blocks.specs.Marks.{marksOf, flagsOf, groupsOf}
-use Rattle.blocks.specs.Records.{Rec, formats, layoutOf, marksRefusal, numberRefusal, typeOf, present}
+use Rattle.blocks.specs.Records.{Rec, formats, marksSpare, layoutOf, marksRefusal, numberRefusal, typeOf, present}
 use Rattle.blocks.specs.Offsets.{specsAt, itemsAt, recordAt}
-use Rattle.blocks.specs.Walks.{onward, runOf, typeFrom, afterItems, restOf}
+use Rattle.blocks.specs.Walks.{nextEnd, onward, runOf, itemsOf, afterItems, restOf}
 use Rattle.blocks.specs.declared.walk.Walked.{Walked}
 use Rattle.blocks.proofs.MarksLaws.{flags-32, formats-more, spare-more, meets-more, flags-long, Marked, specs-marked, spec-end}
 
@@ -44,13 +45,17 @@ by-known P a b c n h = go (eqb n 23) (eqb n 65) (eqb n 242) refl refl refl h
     go false false true e f g h = subst P (sym (eqb-true n 242 g)) c
     go false false false e f g h = absurd (false≢true h)
 
--- what the walks need of a category: seven fields to each of one or two specification octets, and item 000 at field 2
+-- the last of the three
+pub known-last : (n : ℕ) → known n ≡ true → (n ≡ 23 → ⊥) → (n ≡ 65 → ⊥) → n ≡ 242
+known-last = by-known (λ (n : ℕ). (n ≡ 23 → ⊥) → (n ≡ 65 → ⊥) → n ≡ 242) (λ a b. absurd (a refl)) (λ a b. absurd (b refl)) (λ a b. refl)
+
+-- what the walks need of a category: seven fields to each of one or two specification octets, and items 010 and 000 first
 pub record Table (n : ℕ) (c : Category) : Type 0 where
   pub number : c .number ≡ n
   pub long : length (c .fields) ≡ c .most * 7
   pub some : 1 ≤ c .most
   pub few : c .most ≤ 2
-  pub typed : eqb n 242 ≡ false → formAt c 2 ≡ Form.MessageType
+  pub typed : eqb n 242 ≡ false → c .fields ≡ Form.Source ∷ Form.MessageType ∷ drop 2 (c .fields)
 
 pub table : (n : ℕ) → known n ≡ true → Table n (category n)
 table =
@@ -69,6 +74,10 @@ module _ {A : Type 0} where
   ended (refused n) h = subst (Ended (refused n)) (sym h) refl
   ended (got a q) h = subst (Ended (got a q)) (sym h) (a, refl)
 
+-- an offset of the block is an end within it
+pub at-within : (len at : ℕ) → at ≤ len → (p : ℕ) → At at ≡ At p → p ≤ len
+at-within len at l p h = let e : at ≡ p = cc in omega arith
+
 module _ (s : List ℕ) (len : ℕ) where
   pub item-run : (f : Format) (at q : ℕ) (tr : Trace) → itemAt s len f at ≡ got tr q → runAt s len f at ≡ got tr q
   unfolding itemAt
@@ -76,139 +85,181 @@ module _ (s : List ℕ) (len : ℕ) where
       let w = through (runAt s len f at) h in
       w .2 ∙ pick-yes (fitsIn f (w .0)) _ _ (w .3) .1
 
-  -- an item ends where it begins or behind, and within the block
-  pub item-within : (f : Format) (at q : ℕ) → at ≤ len → At q ≡ endOf (itemAt s len f at) → (at ≤ q) × (q ≤ len)
+  -- an item ends where it begins or behind, and within the block; so do items one after the other
+  item-within : (f : Format) (at q : ℕ) → at ≤ len → At q ≡ endOf (itemAt s len f at) → (at ≤ q) × (q ≤ len)
   item-within f at q l h =
       let w = ended (itemAt s len f at) h in
       run-within s len f at (w .0) q l (item-run f at q (w .0) (w .1))
 
+  pub items-within : (fs : List Format) (at q : ℕ) (trs : List Trace) → at ≤ len → itemsAt s len fs at ≡ got trs q → (at ≤ q) × (q ≤ len)
+  unfolding itemsAt
+  items-within [] at q trs l h = let e : at ≡ q = cc in (omega arith, omega arith)
+  items-within (f ∷ fs) at q trs l h =
+      let (tr, p, e, h') = through (itemAt s len f at) h in
+      let (trs', q', e', last) = through (itemsAt s len fs p) h' in
+      let same : q' ≡ q = cc in
+      let (a, b) = run-within s len f at tr p l (item-run f at p tr e) in
+      let (a', b') = items-within fs p q' trs' b e' in
+      (omega arith, omega arith)
+
+  pub items-end-within : (fs : List Format) (at q : ℕ) → at ≤ len → At q ≡ endOf (itemsAt s len fs at) → (at ≤ q) × (q ≤ len)
+  items-end-within fs at q l h = let w = ended (itemsAt s len fs at) h in items-within fs at q (w .0) l (w .1)
+
   -- the value of item 000 is its octet
-  type-value : (f : Form) (at q : ℕ) (tr : Trace) → f ≡ Form.MessageType → itemAt s len (format (layout f)) at ≡ got tr q
+  type-value : (at q : ℕ) (tr : Trace) → itemAt s len (format (layout Form.MessageType)) at ≡ got tr q
       → (x : ℕ) → (x ≡ getD s (at + 0) 0) × (x < 256) → x ≡ getD (getD tr 0 []) 0 0
   unfolding format traceAt values number
-  type-value f at q tr e h x o =
-      rw (run-trace s len (format (layout f)) at tr q (item-run (format (layout f)) at q tr h), e) (omega arith)
+  type-value at q tr h x o =
+      rw (run-trace s len (format (layout Form.MessageType)) at tr q (item-run (format (layout Form.MessageType)) at q tr h)) (omega arith)
 
--- A record's type, where b says that its category has none: before a field, and once an item with the value x has been passed
-abbrev typeBy : Bool → ℕ → ℕ → List Trace → ℕ
-typeBy b field kind trs = pick b kind (pick (leb field 2) (getD (getD (getD trs (2 - field) []) 0 []) 0 0) kind)
+  -- an end behind one field more lies within the block as the one before it
+  next-within : (b : Bool) (f : Form) (e : End) → ((p : ℕ) → e ≡ At p → p ≤ len) → (q : ℕ) → nextEnd s len b f e ≡ At q → q ≤ len
+  unfolding nextEnd
+  next-within b f (Refused n) l q h = let z : _≡_ {A = ℕ} 0 1 = cc in absurd (omega arith)
+  next-within true f (At p) l q h = item-within (format (layout f)) p q (l p refl) (sym h) .1
+  next-within false f (At p) l q h = at-within len p (l p refl) q h
 
-abbrev typeAfter : Bool → ℕ → ℕ → ℕ → ℕ
-typeAfter b field x kind = pick b kind (pick (eqb field 2) x kind)
+  pub next-is : (b : Bool) (f : Form) (e : End) → ((p : ℕ) → e ≡ At p → p ≤ len)
+      → (r : End) → r ≡ nextEnd s len b f e → (r ≡ nextEnd s len b f e) × ((q : ℕ) → r ≡ At q → q ≤ len)
+  next-is b f e l r h = (h, λ q g. next-within b f e l q (sym h ∙ g))
 
-type-next : (b : Bool) (i kind x : ℕ) (tr : Trace) (trs : List Trace) → (b ≡ false → i ≡ 1 → x ≡ getD (getD tr 0 []) 0 0)
-    → typeBy b (suc i) kind (tr ∷ trs) ≡ typeBy b (suc i + 1) (typeAfter b (suc i) x kind) trs
-type-next true i kind x tr trs h = refl
-type-next false zero kind x tr trs h = refl
-type-next false (suc zero) kind x tr trs h = sym (h refl refl)
-type-next false (suc (suc j)) kind x tr trs h =
-    let i = suc (suc (suc j)) in
-    rw (lt-leb i 2 (omega arith), lt-leb (i + 1) 2 (omega arith), ne-eqb i 2 (λ e. omega arith))
+  -- behind the items of fields from field i + 1 on, field by field, where m says which are marked; the spare ones are left out
+  abbrev ends : (ℕ → Bool) → ℕ → List Form → End → End
+  ends m i [] e = e
+  ends m i (f ∷ fs) e = ends m (suc i) fs (pick (isUnused (layout f)) e (nextEnd s len (m i) f e))
 
-none-left : (bs : List Bool) → formats bs [] ≡ []
-unfolding formats
-none-left [] = refl
-none-left (b ∷ bs) = refl
+  ends-refused : (m : ℕ → Bool) (i : ℕ) (fs : List Form) (n : ℕ) → ends m i fs (Refused n) ≡ Refused n
+  unfolding nextEnd
+  ends-refused m i [] n = refl
+  ends-refused m i (f ∷ fs) n =
+      choose (λ (e : End). ends m (suc i) fs e ≡ Refused n) (isUnused (layout f)) (λ u. ends-refused m (suc i) fs n) (λ u. ends-refused m (suc i) fs n)
 
--- The rest of a record from a field on
-module _ (s : List ℕ) (len n : ℕ) (c : Category) (t : Table n c) (marks start budget count : ℕ) where
-  abbrev bs : List Bool
-  bs = flagsOf 32 marks
+  -- a field that is not both spare and marked is passed as its format is read
+  next-by : (b u : Bool) (f : Form) (at : ℕ) → (b && u) ≡ false
+      → pick u (At at) (nextEnd s len b f (At at)) ≡ endOf (itemAt s len (pick b (format (layout f)) done) at)
+  unfolding nextEnd itemAt runAt fitsIn
+  next-by true true f at h = absurd (true≢false h)
+  next-by true false f at h = refl
+  next-by false true f at h = refl
+  next-by false false f at h = refl
 
-  abbrev rest : ℕ → ℕ → ℕ → Walked
-  rest field at kind = restOf s len c bs field at kind start budget count
-
-  -- behind the last item
-  abbrev last : ℕ → ℕ → ℕ → Walked
-  last m at kind = pick (meets (rowsOf m) kind bs) (runOf s len c budget at (count + 1)) (Walked.Refused presenceBroken start)
-
-  rest-done : (field at kind : ℕ) → length (c .fields) < field → last n at kind ≡ rest field at kind
-  unfolding restOf itemsAt
-  rest-done field at kind h =
-      rw (
-        ← t .number,
-        drop-of-length-le (c .fields) {i = field - 1} (omega arith),
-        none-left (drop (field - 1) bs),
-        lt-leb field 2 (omega arith),
-      )
-      (go (eqb (c .number) 242))
+  -- so the items of any fields are passed, where no spare one is marked
+  items-end : (m : ℕ → Bool) (i : ℕ) (bs : List Bool) (fs : List Form) → ((k : ℕ) → getD bs k false ≡ m (i + k)) → length fs ≤ length bs
+      → marksSpare bs fs ≡ false → (at : ℕ) → endOf (itemsAt s len (formats bs fs) at) ≡ ends m i fs (At at)
+  unfolding itemsAt formats marksSpare
+  items-end m i [] [] same l h at = refl
+  items-end m i [] (f ∷ fs) same l h at = absurd (omega arith)
+  items-end m i (b ∷ bs) [] same l h at = refl
+  items-end m i (b ∷ bs) (f ∷ fs) same l h at =
+      let (one, others) = neither (b && isUnused (layout f)) (marksSpare bs fs) h in
+      let first : b ≡ m i = rw add-zero at (same 0) in
+      rw (← first, next-by b (isUnused (layout f)) f at one)
+      (go (itemAt s len (pick b (format (layout f)) done) at)
+      (items-end m (suc i) bs fs (λ k. rw (suc-add i k, ← add-suc i k) (same (suc k))) (omega arith) others))
     where
-      go : (b : Bool) → last (c .number) at kind ≡ last (c .number) at (pick b kind kind)
-      go true = refl
-      go false = refl
+      go : (a : Answer ℕ Trace) → ((p : ℕ) → endOf (itemsAt s len (formats bs fs) p) ≡ ends m (suc i) fs (At p))
+          → endOf (andThen a (λ tr p. andThen (itemsAt s len (formats bs fs) p) (λ trs q. got (tr ∷ trs) q))) ≡ ends m (suc i) fs (endOf a)
+      go (refused n) ih = sym (ends-refused m (suc i) fs n)
+      go (got tr p) ih = rw (end-then (λ (trs : List Trace). tr ∷ trs)) (ih p)
 
-  -- the item of a field, where it is marked
-  abbrev formatAt : ℕ → Format
-  formatAt field = pick (getD bs (field - 1) false) (format (layout (formAt c field))) done
+  -- the first two fields of a record that has a type: its item 000 was read behind the item of field 1
+  record Two (b b' : Bool) (at : ℕ) (trs : List Trace) : Type 0 where
+    pub p : ℕ
+    pub before : nextEnd s len b Form.Source (At at) ≡ At p
+    pub q : ℕ
+    pub there : itemAt s len (pick b' (format (layout Form.MessageType)) done) p ≡ got (getD trs 1 []) q
 
-  first-left : (i : ℕ) → i < length (c .fields)
-      → formats (drop i bs) (drop i (c .fields))
-      ≡ pick (getD bs i false) (format (layout (formAt c (suc i)))) done ∷ formats (drop (suc i) bs) (drop (suc i) (c .fields))
-  unfolding formats flagsOf
-  first-left i h =
-      let l : i < length bs = omega arith in
-      rw (drop-cons bs i false, drop-cons (c .fields) i Form.Spare)
+  first-two : (b b' : Bool) (bs : List Bool) (fs : List Form) (at q : ℕ) (trs : List Trace)
+      → itemsAt s len (formats (b ∷ b' ∷ bs) (Form.Source ∷ Form.MessageType ∷ fs)) at ≡ got trs q → Two b b' at trs
+  unfolding formats itemsAt
+  first-two b b' bs fs at q trs h =
+      let (tr, p, e, h') = through (itemAt s len (pick b (format (layout Form.Source)) done) at) h in
+      let (trs', r, e', end) = through (itemsAt s len (formats (b' ∷ bs) (Form.MessageType ∷ fs)) p) h' in
+      let (tr', p', there, h'') = through (itemAt s len (pick b' (format (layout Form.MessageType)) done) p) e' in
+      let (others, r', e'', end') = through (itemsAt s len (formats bs fs) p') h'' in
+      let is : tr ∷ tr' ∷ others ≡ trs = cc in
+      record {
+        p = p;
+        before = next-by b false Form.Source at (and-false b) ∙ ap endOf e;
+        q = p';
+        there = there ∙ ap (λ (l : List Trace). got (getD l 1 []) p') is;
+      }
 
-  rest-stop : (field at kind m : ℕ) → 1 ≤ field → field ≤ length (c .fields) → itemAt s len (formatAt field) at ≡ refused m
-      → Walked.Refused m start ≡ rest field at kind
-  unfolding restOf itemsAt
-  rest-stop zero at kind m low high h = absurd (omega arith)
-  rest-stop (suc i) at kind m low high h =
-      let e : suc i - 1 ≡ i = omega arith in
-      rw (e, first-left i (omega arith), rw e at h)
+-- The items of a record, field by field
+module _ (s : List ℕ) (len : ℕ) (c : Category) (marks at : ℕ) where
+  abbrev items : Answer ℕ (List Trace)
+  items = itemsOf s len c (flagsOf 32 marks) at
 
-  after-one : (field kind k : ℕ) (tr : Trace)
-      → ((trs : List Trace) → typeFrom s len c field kind (tr ∷ trs) ≡ typeFrom s len c (field + 1) k trs)
-      → (m : Answer ℕ (List Trace))
-      → afterItems s len c bs field kind start budget count (andThen m (λ trs q. got (tr ∷ trs) q))
-      ≡ afterItems s len c bs (field + 1) k start budget count m
-  after-one field kind k tr e (refused n) = refl
-  after-one field kind k tr e (got trs q) = rw (e trs)
+  -- the end that the code goes to is that of the items
+  pub items-passed : length (c .fields) ≤ 32 → numberRefusal c marks ≡ 0
+      → (r : End) → r ≡ ends s len (λ i. getD (flagsOf 32 marks) i false) 0 (c .fields) (At at) → r ≡ endOf items
+  unfolding flagsOf
+  items-passed l h r e =
+      let bs = flagsOf 32 marks in
+      e ∙ sym (items-end s len (λ i. getD bs i false) 0 bs (c .fields) (λ k. rw zero-add) l (go (eqb marks 0) (marksSpare bs (c .fields)) h) at)
+    where
+      go : (none spare : Bool) → pick none noneMarked (pick spare spareMarked 0) ≡ 0 → spare ≡ false
+      go true spare h = absurd (omega arith)
+      go false true h = absurd (omega arith)
+      go false false h = refl
 
-  rest-go : (field at kind x q : ℕ) (tr : Trace) → 1 ≤ field → field ≤ length (c .fields)
-      → itemAt s len (formatAt field) at ≡ got tr q → (eqb n 242 ≡ false → field ≡ 2 → x ≡ getD (getD tr 0 []) 0 0)
-      → rest (field + 1) q (typeAfter (eqb n 242) field x kind) ≡ rest field at kind
-  unfolding restOf itemsAt
-  rest-go zero at kind x q tr low high h v = absurd (omega arith)
-  rest-go (suc i) at kind x q tr low high h v =
-      let e : suc i - 1 ≡ i = omega arith in
-      let e' : suc i + 1 - 1 ≡ suc i = omega arith in
-      sym (rw (e, e', first-left i (omega arith), rw e at h)
-      (after-one (suc i) kind _ tr
-      (λ trs. rw (t .number) (type-next (eqb n 242) i kind x tr trs (λ b j. v b (omega arith))))
-      (itemsAt s len (formats (drop (suc i) bs) (drop (suc i) (c .fields))) q)))
+  module _ (n : ℕ) (t : Table n c) (trs : List Trace) (q : ℕ) (is : items ≡ got trs q) where
+    pub type-none : n ≡ 242 → 0 ≡ typeOf c trs
+    type-none h = rw (t .number, h)
 
-  module _ (field at kind : ℕ) where
-    module _ (past : length (c .fields) < field) where
-      pub rest-present : meets (rowsOf n) kind bs ≡ true
-          → (r : Walked) → r ≡ runOf s len c budget at (count + 1) → r ≡ rest field at kind
-      rest-present m r is = is ∙ (rw m at (rest-done field at kind past))
+    module _ (other : n ≡ 242 → ⊥) where
+      abbrev first : Bool
+      first = getD (flagsOf 32 marks) 0 false
 
-      pub rest-absent : meets (rowsOf n) kind bs ≡ false → Walked.Refused presenceBroken start ≡ rest field at kind
-      rest-absent m = rw m at (rest-done field at kind past)
+      abbrev second : Bool
+      second = getD (flagsOf 32 marks) 1 false
 
-    module _ (low : 1 ≤ field) (high : field ≤ length (c .fields)) where
-      pub rest-unmarked : getD bs (field - 1) false ≡ false → (k : ℕ) → k ≡ typeAfter (eqb n 242) field 0 kind
-          → (r : Walked) → r ≡ rest (field + 1) at k → r ≡ rest field at kind
+      two : Two s len first second at trs
+      unfolding flagsOf
+      two = first-two s len first second (drop 2 (flagsOf 32 marks)) (drop 2 (c .fields)) at q trs (rw (t .typed (ne-eqb n 242 other)) at is)
+
+      is-typed : (x : ℕ) → x ≡ getD (getD (getD trs 1 []) 0 []) 0 0 → x ≡ typeOf c trs
+      is-typed x h = rw (t .number, ne-eqb n 242 other) h
+
+      pub type-unmarked : second ≡ false → 0 ≡ typeOf c trs
       unfolding itemAt runAt fitsIn
-      rest-unmarked m k e r is = is ∙ rw e (rest-go field at kind 0 at [] low high (rw m) (λ b h. refl))
+      type-unmarked m =
+          let h = two .there in
+          let none : [] ≡ getD trs 1 [] = cc (rw m at h) in
+          is-typed 0 (rw (← none))
 
-      module _ (m : getD bs (field - 1) false ≡ true) (f : Field) (of : f ≡ fieldAt c field) where
-        abbrev read : Answer ℕ Trace
-        read = itemAt s len (format (layout (f .0))) at
+      module _ (e : End) (past : e ≡ nextEnd s len first Form.Source (At at)) where
+        pub type-octet : second ≡ true → (p : ℕ) → e ≡ At p → (x : ℕ) → (x ≡ getD s (p + 0) 0) × (x < 256) → x ≡ typeOf c trs
+        type-octet m p h x o =
+            let same : two .p ≡ p = cc (two .before) in
+            is-typed x (type-value s len p (two .q) (getD trs 1 []) (rw (m, same) at (two .there)) x o)
 
-        same : itemAt s len (formatAt field) at ≡ read
-        same = rw (m, of)
+        pub type-refused : (w : ℕ) → e ≡ Refused w → 0 ≡ typeOf c trs
+        type-refused w h = let z : _≡_ {A = ℕ} 0 1 = cc (two .before) in absurd (omega arith)
 
-        pub rest-refused : (w : ℕ) → Refused w ≡ endOf read → Walked.Refused w start ≡ rest field at kind
-        rest-refused w h = rest-stop field at kind w low high (same ∙ ended read h)
+  -- The rest of the record
+  module _ (start budget count : ℕ) where
+    abbrev rest : Walked
+    rest = restOf s len c (flagsOf 32 marks) at start budget count
 
-        pub rest-marked : (q : ℕ) → At q ≡ endOf read → (x : ℕ) → (x ≡ getD s (at + 0) 0) × (x < 256)
-            → (k : ℕ) → k ≡ typeAfter (eqb n 242) field x kind → (r : Walked) → r ≡ rest (field + 1) q k → r ≡ rest field at kind
-        rest-marked q h x o k e r is =
-            let (tr, got-tr) = ended read h in
-            let form : eqb n 242 ≡ false → field ≡ 2 → f .0 ≡ Form.MessageType = λ b two. ap (λ (y : Field). y .0) of ∙ rw two (t .typed b) in
-            is ∙ rw e (rest-go field at kind x q tr low high (same ∙ got-tr) (λ b two. type-value s len (f .0) at q tr (form b two) got-tr x o))
+    pub rest-refused : (w : ℕ) → Refused w ≡ endOf items → Walked.Refused w start ≡ rest
+    unfolding restOf
+    rest-refused w h = rw (ended items h)
+
+    module _ (q : ℕ) (end : At q ≡ endOf items) (x : ℕ) (typed : (trs : List Trace) (q : ℕ) → items ≡ got trs q → x ≡ typeOf c trs)
+        (n : ℕ) (t : Table n c) where
+      rest-read : pick (meets (rowsOf n) x (flagsOf 32 marks)) (runOf s len c budget q (count + 1)) (Walked.Refused presenceBroken start) ≡ rest
+      unfolding restOf
+      rest-read =
+          let w = ended items end in
+          rw (w .1, ← typed (w .0) q (w .1), t .number)
+
+      pub rest-present : meets (rowsOf n) x (flagsOf 32 marks) ≡ true
+          → (r : Walked) → r ≡ runOf s len c budget q (count + 1) → r ≡ rest
+      rest-present m r is = is ∙ (rw m at rest-read)
+
+      pub rest-absent : meets (rowsOf n) x (flagsOf 32 marks) ≡ false → Walked.Refused presenceBroken start ≡ rest
+      rest-absent m = rw m at rest-read
 
 module _ (s : List ℕ) (len : ℕ) (c : Category) (at : ℕ) where
   module _ (budget count : ℕ) where
@@ -278,7 +329,7 @@ module _ (s : List ℕ) (len : ℕ) (c : Category) (at : ℕ) where
     unfolding recordAt
     record-unmarked h = rw (sp .is, ← same-refusal, ne-eqb w 0 h) at (run-one s len c at budget count (budget - 1) some more)
 
-    pub record-items : w ≡ 0 → (r : Walked) → r ≡ restOf s len c (flagsOf 32 marks) 1 p 0 at (budget - 1) count
+    pub record-items : w ≡ 0 → (r : Walked) → r ≡ restOf s len c (flagsOf 32 marks) p at (budget - 1) count
         → r ≡ runOf s len c budget at count
     unfolding recordAt restOf layoutOf present
     record-items h r e =
@@ -299,7 +350,7 @@ module _ (s : List ℕ) (len : ℕ) (c : Category) (at : ℕ) where
         either false rc q = refl
 
         go : (a : Answer ℕ (List Trace))
-            → afterItems s len c (flags gs ++ replicate others false) 1 0 at (budget - 1) count a
+            → afterItems s len c (flags gs ++ replicate others false) at (budget - 1) count a
             ≡ onward s len c at
             (andThen a (λ trs q. pick (met trs) (got (record { marks = gs; items = trs }) q) (refused presenceBroken))) next
         go (refused x) = refl

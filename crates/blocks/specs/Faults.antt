@@ -10,7 +10,7 @@ use Rattle.octets.specs.Choice.{odd}
 use Rattle.octets.specs.Numbers.{number}
 use Rattle.layouts.specs.Formats.{got, Trace, fitsIn}
 use Rattle.layouts.specs.Offsets.{traceAt}
-use Rattle.layouts.specs.Layouts.{format, kindOf}
+use Rattle.layouts.specs.Layouts.{isUnused, format, kindOf}
 use Rattle.layouts.specs.Ends.{kindEnd}
 use Rattle.layouts.specs.Tables.{layout}
 use Rattle.layouts.specs.Categories.{Category, known, formAt, layoutAt}
@@ -19,7 +19,7 @@ use Rattle.layouts.specs.declared.ends.Kind.{Kind}
 use Rattle.layouts.specs.declared.ends.Kind.the-variants.{Spare, Fixed, Extended, Repeated, Explicit}
 use Rattle.layouts.specs.declared.form.Form.{Form}
 use Rattle.blocks.specs.Specification.{flags}
-use Rattle.blocks.specs.Records.{isUnused, layoutOf, present}
+use Rattle.blocks.specs.Records.{layoutOf, present}
 use Rattle.blocks.specs.Offsets.{specsAt, itemsAt}
 
 -- The header; CAT is the first octet, LEN the next two

@@ -1,11 +1,9 @@
 -- Marks as a number: bit f - 1 for field f, as the typed record has them.
-use mathlib.Core.Bool.{Bool, true, false, _&&_}
+use mathlib.Core.Bool.{Bool, true, _&&_}
 use mathlib.Core.List.{List, [], _∷_}
 use Prim.Native.Nat.{ℕ, zero, suc, _+_, _*_, _/_}
 use lib.ListN.{getD}
 use Rattle.octets.specs.Choice.{pick, odd}
-use Rattle.layouts.specs.declared.ends.Kind.{Kind}
-use Rattle.layouts.specs.declared.ends.Kind.the-variants.{Spare, Fixed, Extended, Repeated, Explicit}
 
 -- the number of marks, field 1 in its low bit
 unfoldable pub marksOf : List Bool → ℕ
@@ -26,11 +24,3 @@ groupsOf (suc n) s at = getD s at 0 / 2 ∷ groupsOf n s (at + 1)
 unfoldable pub hasAll : ℕ → ℕ → ℕ → Bool
 hasAll zero m k = true
 hasAll (suc n) m k = pick (odd m) (odd k) true && hasAll n (m / 2) (k / 2)
-
--- the kind of a spare field
-abbrev pub isSpare : Kind → Bool
-isSpare Spare = true
-isSpare (Fixed size) = false
-isSpare (Extended size more) = false
-isSpare (Repeated size) = false
-isSpare Explicit = false

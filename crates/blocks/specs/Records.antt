@@ -7,7 +7,7 @@ use lib.ListN.{length, getD, drop}
 use Rattle.octets.specs.Choice.{pick}
 use Rattle.octets.specs.Refusals.{spareMarked, noneMarked, presenceBroken}
 use Rattle.layouts.specs.Formats.{Answer, refused, got, andThen, Format, done, Trace, item, fitsIn, put}
-use Rattle.layouts.specs.Layouts.{Layout, unused, fixed, extended, repeated, explicit, format}
+use Rattle.layouts.specs.Layouts.{isUnused, format}
 use Rattle.layouts.specs.Tables.{layout}
 use Rattle.layouts.specs.Categories.{Category}
 use Rattle.layouts.specs.declared.form.Form.{Form}
@@ -25,13 +25,6 @@ unfoldable pub formats : List Bool → List Form → List Format
 formats [] fs = []
 formats (b ∷ bs) [] = []
 formats (b ∷ bs) (f ∷ fs) = pick b (format (layout f)) done ∷ formats bs fs
-
-abbrev pub isUnused : Layout → Bool
-isUnused unused = true
-isUnused (fixed g) = false
-isUnused (extended g hs) = false
-isUnused (repeated g) = false
-isUnused explicit = false
 
 -- a spare field, or one past the last, is marked
 unfoldable pub marksSpare : List Bool → List Form → Bool

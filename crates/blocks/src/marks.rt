@@ -6,14 +6,12 @@ ghost use Prim.Native.Nat.{_+_, _*_, _-_, _/_, _≤_, _<_};
 ghost use lib.ListN.{length, getD};
 ghost use Rattle.layouts.specs.Categories.{category, known};
 ghost use Rattle.blocks.specs.Specification.{flags};
-ghost use Rattle.blocks.specs.Marks.{marksOf, flagsOf, groupsOf, isSpare};
+ghost use Rattle.blocks.specs.Marks.{marksOf, flagsOf, groupsOf};
 ghost use Rattle.blocks.specs.Records.{marksSpare, numberRefusal};
-use layouts::ends::Kind;
 use octets::refusal;
 
 // The marks of one specification octet.
-fn octet_marks(x: u64) -> u32
-    requires { ⌜ x < 256 ⌝ }
+fn octet_marks(x: u8) -> u32
     ensures { λ r. ⌜ (r ≡ marksOf (flags (x / 2 ∷ []))) × (r < 128) ⌝ }
 {
     (x / 128 % 2
@@ -34,7 +32,7 @@ pub fn marks_at(s: &[u8], at: usize, n: usize) -> u32
     let mut i = n;
     while 0 < i {
         i -= 1;
-        m = m * 128 + octet_marks(octets::octet(s, at, i));
+        m = m * 128 + octet_marks(s[at + i]);
     }
     m
 }
@@ -55,40 +53,11 @@ pub fn last_field(number: u8) -> usize
     layouts::category::most_of(number) as usize * 7
 }
 
-// Whether a kind is that of a spare field, or of one past the category's last.
-fn is_spare(kind: Kind) -> bool
-    ensures { λ r. ⌜ r ≡ isSpare kind ⌝ }
-{
-    match kind {
-        Kind::Spare => true,
-        Kind::Fixed(_) => false,
-        Kind::Extended(_, _) => false,
-        Kind::Repeated(_) => false,
-        Kind::Explicit => false,
-    }
-}
-
 // Whether a field is marked that is spare, or past the category's last.
 fn marks_spare(number: u8, marks: u32) -> bool
     ensures { λ r. ⌜ r ≡ marksSpare (flagsOf 32 marks) (category number .fields) ⌝ }
 {
-    let mut left = marks;
-    let mut f: usize = 0;
-    while f < 32 {
-        if left == 0 {
-            return false;
-        }
-        f += 1;
-        if left % 2 == 1 {
-            let field = layouts::category::field_of(number, f);
-            let kind = field.1;
-            if is_spare(kind) {
-                return true;
-            }
-        }
-        left = left / 2;
-    }
-    false
+    marks & layouts::category::unused_of(number) != 0
 }
 
 // 6 for no mark, 5 for one of a spare field or one past the category's last.

@@ -10,16 +10,7 @@ use layouts::category::mandatory_of;
 fn has_all(mandatory: u32, marks: u32) -> bool
     ensures { λ r. ⌜ r ≡ hasAll 32 mandatory marks ⌝ }
 {
-    let mut m = mandatory;
-    let mut k = marks;
-    while 0 < m {
-        if k % 2 < m % 2 {
-            return false;
-        }
-        m = m / 2;
-        k = k / 2;
-    }
-    true
+    marks & mandatory == mandatory
 }
 
 // Of category 65: 040 exactly in type 1, 020 exactly in type 2, 050 exactly in the third.

@@ -19,7 +19,8 @@ use Rattle.rows.specs.Rows.{Row, Entry, addUp}
 use Rattle.rows.specs.Posting.{Report, rowsFor, passes, postRows, refused, counts}
 use Rattle.ledger.specs.Ledgers.{answer, rowsOf, keepsRules}
 use Rattle.ledger.specs.Posts.{postOf}
-use Rattle.ledger.specs.Reports.{isStatistics, entriesOf, reportIn, reportAt, reportBy, reportOf}
+use Rattle.blocks.specs.Statistics.{isStatistics}
+use Rattle.ledger.specs.Reports.{entriesOf, reportIn, reportAt, reportBy, reportOf}
 use Rattle.ledger.specs.declared.Answer.{Answer}
 use Rattle.ledger.specs.declared.Ledger.{Ledger}
 use Rattle.ledger.proofs.RecordNumbers.{number-past, number-taken}

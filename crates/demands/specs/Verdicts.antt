@@ -12,7 +12,8 @@ use Rattle.blocks.specs.declared.walk.Reading.{Reading}
 use Rattle.rows.specs.Rows.{addUp}
 use Rattle.rows.specs.Posting.{rowsFor, passes}
 use Rattle.ledger.specs.Ledgers.{rowsOf, keepsRules}
-use Rattle.ledger.specs.Reports.{isStatistics, entriesOf, stepAt}
+use Rattle.blocks.specs.Statistics.{isStatistics}
+use Rattle.ledger.specs.Reports.{entriesOf, stepAt}
 use Rattle.ledger.specs.declared.Ledger.{Ledger}
 
 -- the ledger keeps the rules, the block is accepted and has a record of this number, and that is t

@@ -23,7 +23,8 @@ use Rattle.blocks.specs.declared.walk.Reading.the-variants as reading
 use Rattle.blocks.proofs.SameAnswers.{read-after-len, step-after-len}
 use Rattle.blocks.proofs.StepLaws.{ofStep}
 use Rattle.rows.specs.Posting.{counts}
-use Rattle.ledger.specs.Reports.{isStatistics, entriesFrom, reportIn}
+use Rattle.blocks.specs.Statistics.{isStatistics}
+use Rattle.ledger.specs.Reports.{entriesFrom, reportIn}
 use Rattle.ledger.specs.Steps.{Lies}
 use Rattle.ledger.proofs.ReportLaws.{lies, entries-lie}
 use Rattle.feed.specs.Blocks.{lenOf, judged, nextOf, reportsFrom, reportsOf}
@@ -31,7 +32,7 @@ use Rattle.feed.specs.Runs.{State, acceptedBlock}
 use Rattle.feed.specs.declared.block.Next.{Next}
 use Rattle.feed.specs.declared.block.Next.the-variants as next
 use Rattle.feed.proofs.NextLaws.{Whole, next-cases, next-low, next-judged}
-use Rattle.feed.proofs.BlockTheorems.{reports-step}
+use Rattle.feed.proofs.BlockReports.{reports-step}
 
 -- Octets with others behind them
 

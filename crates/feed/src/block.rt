@@ -12,11 +12,11 @@ ghost use Rattle.feed.specs.Totals.{acceptedOne};
 use crate::totals::Totals;
 use crate::totals::counted;
 use crate::totals::with_accepted;
-use blocks::cursor::Step;
-use blocks::cursor::take;
+use blocks::statistics::Seen;
+use blocks::statistics::see;
 use blocks::walk::Reading;
 use blocks::walk::read;
-use ledger::post::post_record;
+use ledger::post::post_report;
 
 // What the octets at hand begin with: an accepted block and its LEN, a refused one to skip by LEN; or the run has ended, stops, or needs more octets.
 pub enum Next {
@@ -58,7 +58,8 @@ pub fn next_block(s: &[u8], is_over: bool) -> Next
     }
 }
 
-// Posts the records of an accepted block of LEN octets, along its steps. For `run`, and for callers that have seen the block accepted.
+// Posts the records of an accepted block of LEN octets, along its steps: only category 23 has statistics reports, and every other record is
+// answered 13. For `run`, and for callers that have seen the block accepted.
 pub fn post_block(
     count: &mut usize,
     keys: &mut [u32; 256],
@@ -74,18 +75,21 @@ pub fn post_block(
         × (r ≡ acceptedOne totals (answers addUp (rowsOf (columns (now (count .entry)) (now (keys .entry)) (now (lives .entry)) (now (readings .entry)))) (reportsOf (now (s .entry))))) ⌝ }
 {
     let number = s[0];
+    if number != 23 {
+        return with_accepted(totals);
+    }
     let mut after = totals;
     let mut at: usize = 3;
     while at < len {
-        let step = take(s, len, number, at);
-        match step {
-            Step::Refused(_, _) => {
-                at = len;
+        let seen = see(s, len, at);
+        match seen {
+            Seen::Other(next) => {
+                at = next;
             }
-            Step::Taken(record, cursor) => {
-                let answer = post_record(count, keys, lives, readings, s, record);
+            Seen::Report(report, next) => {
+                let answer = post_report(count, keys, lives, readings, s, report);
                 after = counted(after, answer);
-                at = cursor.at;
+                at = next;
             }
         }
     }

@@ -29,29 +29,9 @@ pub one-octet : (s : List ℕ) (o x : ℕ) → x ≡ getD s (o + 0) 0 → x ≡ 
 unfolding number
 one-octet s o x h = omega arith
 
-number-one : (s : List ℕ) (o : ℕ) → number 1 s o ≡ getD s o 0
+pub number-one : (s : List ℕ) (o : ℕ) → number 1 s o ≡ getD s o 0
 unfolding number
 number-one s o = rw add-zero (omega arith)
-
--- a first group has few octets
-pub first-few : (f : Form) → firstOctets (kindOf (layout f)) ≤ 8
-first-few form.Spare = omega arith
-first-few form.Source = omega arith
-first-few form.MessageType = omega arith
-first-few form.Service = omega arith
-first-few form.Identification = omega arith
-first-few form.Time = omega arith
-first-few form.Batch = omega arith
-first-few form.Sdps = omega arith
-first-few form.Report = omega arith
-first-few form.Station = omega arith
-first-few form.Configuration = omega arith
-first-few form.Range = omega arith
-first-few form.Status = omega arith
-first-few form.Statistics = omega arith
-first-few form.Versions = omega arith
-first-few form.Expansion = omega arith
-first-few form.Purpose = omega arith
 
 module _ (s : List ℕ) (at : ℕ) where
   -- the number of the first group, as the kind has its octets
@@ -130,7 +110,7 @@ module _ (s : List ℕ) (len : ℕ) where
   run-past false n f at tr q h = refl
 
   -- FX of the last part is not set
-  last-clear : (n : ℕ) (g : Group) (at : ℕ) (tr : Trace) (q : ℕ) → runAt s len (chain n g []) at ≡ got tr q → fx (values (g .parts) (number (g .wide) s at)) ≡ false
+  pub last-clear : (n : ℕ) (g : Group) (at : ℕ) (tr : Trace) (q : ℕ) → runAt s len (chain n g []) at ≡ got tr q → fx (values (g .parts) (number (g .wide) s at)) ≡ false
   unfolding chain
   last-clear n g at tr q h =
       let v = values (g .parts) (number (g .wide) s at) in

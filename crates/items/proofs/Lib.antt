@@ -3,6 +3,7 @@ pub mod ValueLaws
 pub mod Items
 pub mod ReadBack
 pub mod Judged
+pub mod Ranges
 pub mod Written
 pub mod Passed
 pub mod Examples

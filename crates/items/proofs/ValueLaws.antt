@@ -1,5 +1,4 @@
--- Which values fit (`in-bits`, `extension`), the form of a typed item (`form-of`), and an arm of a match that stands for
--- several variants (`each-of`). Assumes nothing.
+-- Which values fit (`in-bits`, `extension`), and an arm of a match that stands for several variants (`each-of`). Assumes nothing.
 use mathlib.Core.Path.{_≡_, refl, subst⁻¹}
 use mathlib.Core.Bool.{Bool, true, false, _&&_, and-true, and-false}
 use mathlib.Core.List.{List, [], _∷_}
@@ -14,12 +13,9 @@ use types.Run.{OneOf}
 use Rattle.octets.specs.Choice.{pick, when}
 use Rattle.octets.specs.Refusals.{pastLast}
 use Rattle.layouts.specs.Groups.{value, values, fits}
-use Rattle.layouts.specs.Formats.{done, Trace, fitsIn}
+use Rattle.layouts.specs.Formats.{done, fitsIn}
 use Rattle.layouts.specs.Layouts.{chain}
 use Rattle.layouts.specs.Tables.{period}
-use Rattle.items.specs.Typed.{itemOf, formOf}
-use Rattle.layouts.specs.declared.form.Form.{Form}
-use Rattle.layouts.specs.declared.form.Form.the-variants as form
 
 module _ (N : Record) (P : N .D → Type 0) where
   -- P of d, from P of each of these variants whatever it holds
@@ -58,23 +54,3 @@ extension (suc zero) p = simp (and-true, in-bits 128 1 127 (omega arith))
 extension (suc (suc e)) p =
     let n = suc (suc e) in
     simp (le-ltb n 2 (omega arith), ne-eqb n 1 (λ h. omega arith), ne-eqb n 0 (λ h. omega arith))
-
--- The typed item says its form.
-pub form-of : (f : Form) (tr : Trace) (behind : ℕ) → formOf (itemOf f tr behind) ≡ f
-form-of form.Spare tr at = refl
-form-of form.Source tr at = refl
-form-of form.MessageType tr at = refl
-form-of form.Service tr at = refl
-form-of form.Identification tr at = refl
-form-of form.Time tr at = refl
-form-of form.Batch tr at = refl
-form-of form.Sdps tr at = refl
-form-of form.Report tr at = refl
-form-of form.Station tr at = refl
-form-of form.Configuration tr at = refl
-form-of form.Range tr at = refl
-form-of form.Status tr at = refl
-form-of form.Statistics tr at = refl
-form-of form.Versions tr at = refl
-form-of form.Expansion tr at = refl
-form-of form.Purpose tr at = refl

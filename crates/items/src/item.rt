@@ -1,22 +1,27 @@
 // One item in octets: read, judged and written, by what stands at its field.
 ghost use mathlib.Core.Path.{_≡_};
+ghost use mathlib.Core.Bool.{true};
 ghost use mathlib.Core.List.{[], _++_};
-ghost use Prim.Native.Nat.{_+_, _*_, _%_, _≤_, _<_};
+ghost use Prim.Native.Nat.{ℕ, _+_, _*_, _%_, _≤_, _<_};
 ghost use lib.Dec.{ltb, leb, eqb};
-ghost use lib.ListN.{length};
+ghost use lib.ListN.{length, getD};
 ghost use Rattle.octets.specs.Choice.{pick, when, odd};
 ghost use Rattle.octets.specs.Numbers.{number, octets, laid};
 ghost use Rattle.octets.specs.Refusals.{passesEnd, noCount, outOfRange};
-ghost use Rattle.layouts.specs.Groups.{values};
+ghost use Rattle.layouts.specs.Groups.{values, fits};
 ghost use Rattle.layouts.specs.Formats.{fitsIn, put};
 ghost use Rattle.layouts.specs.Offsets.{itemAt, traceAt, extensionAt, groupsAt};
-ghost use Rattle.layouts.specs.Layouts.{Layout, octet, times, format, kindOf, firstOctets, entryOctets, entryGroup};
-ghost use Rattle.layouts.specs.Ends.{endOf};
-ghost use Rattle.layouts.specs.Tables.{counter, version, layout};
-ghost use Rattle.items.specs.Typed.{itemOf, fieldOf, countedOctets, itemFormat, given, exactFits, itemRefusal, itemOctets, sizeOf, counterOf, versionOf, val, sourceOf, serviceOf, timeOf, sdpsOf, stationOf, configurationOf, placeAt};
+ghost use Rattle.layouts.specs.Layouts.{Layout, octet, times, format, kindOf, firstGroup, firstOctets, entryOctets, entryGroup};
+ghost use Rattle.layouts.specs.Ends.{endOf, kindEnd};
+ghost use Rattle.layouts.specs.Tables.{time, period, counter, version, layout};
+ghost use Rattle.items.specs.Typed.{fieldOf, countedOctets, itemFormat, given, exactFits, itemRefusal, itemOctets, sizeOf, counterOf, versionOf, val, sourceOf, serviceOf, timeOf, sdpsOf, stationOf, configurationOf, placeAt};
 use crate::typed::Configuration;
 use crate::typed::Counter;
 use crate::typed::Item;
+use crate::typed::LAST_REPORT;
+use crate::typed::LAST_TYPE;
+use crate::typed::LATEST;
+use crate::typed::LONGEST;
 use crate::typed::Place;
 use crate::typed::Sdps;
 use crate::typed::Service;
@@ -24,6 +29,7 @@ use crate::typed::Source;
 use crate::typed::Station;
 use crate::typed::TimeOfDay;
 use crate::typed::Version;
+use crate::values::within;
 use layouts::category::Cat23;
 use layouts::category::Cat242;
 use layouts::category::Field;
@@ -104,19 +110,6 @@ fn extension_at(s: &[u8], at: usize, kind: Kind, first: u64) -> u64
         Kind::Repeated(_) => 0,
         Kind::Explicit => 0,
     }
-}
-
-// The typed item at an offset. Only for the next layer: the offset lies in the slice, and the field is one of a category.
-pub fn item_at(s: &[u8], at: usize, field: Field) -> Item
-    requires { ⌜ (at < length (now s)) × (field .1 ≡ kindOf (layout (field .0))) ⌝ }
-    ensures { λ r. ⌜ r ≡ itemOf (field .0) (traceAt (format (layout (field .0))) (now (s .entry)) at) (at + 1) ⌝ }
-{
-    let form = field.0;
-    let kind = field.1;
-    let size = first_octets(kind);
-    let first = octets::read(s, at, size);
-    let second = extension_at(s, at, kind, first);
-    crate::values::item_of(form, first, second, at + 1)
 }
 
 // 7, 8 and 11 for entries or content at a place of a source of len octets; their count octet has extra more.
@@ -316,24 +309,89 @@ pub fn put_item(out: &mut [u8], at: usize, item: Item, field: Field, source: &[u
     }
 }
 
+// The time at an offset is in its range.
+fn time_fits(s: &[u8], at: usize) -> bool
+    requires { ⌜ at + time .wide ≤ length (now s) ⌝ }
+    ensures { λ r. ⌜ r ≡ fits (time .parts) (values (time .parts) (number (time .wide) (now (s .entry)) at)) ⌝ }
+{
+    s[at] as u32 * 65536 + s[at + 1] as u32 * 256 + s[at + 2] as u32 <= LATEST
+}
+
+// The values of an item's first group are in their ranges.
+fn first_fits(s: &[u8], at: usize, form: Form) -> bool
+    requires { ⌜ at + firstGroup (layout form) .wide ≤ length (now s) ⌝ }
+    ensures { λ r. ⌜ r ≡ fits (firstGroup (layout form) .parts) (values (firstGroup (layout form) .parts) (number (firstGroup (layout form) .wide) (now (s .entry)) at)) ⌝ }
+{
+    match form {
+        Form::MessageType => within(s[at], 1, LAST_TYPE),
+        Form::Time => time_fits(s, at),
+        Form::Report => within(s[at], 1, LAST_REPORT),
+        _ => true,
+    }
+}
+
+// The period of an extension is in its range, where FX of the octet before it says that there is one.
+fn extension_fits(s: &[u8], last: usize) -> bool
+    requires { ⌜ last + (1 + getD (now s) last 0 % 2) ≤ length (now s) ⌝ }
+    ensures { λ r. ⌜ r ≡ pick (odd (getD (now (s .entry)) last 0)) (fits (period .parts) (values (period .parts) (getD (now (s .entry)) (last + 1) 0))) true ⌝ }
+{
+    if s[last] % 2 == 0 {
+        return true;
+    }
+    within(s[last + 1] / 2, 1, LONGEST)
+}
+
+// The values of an item that ends in the slice are in their ranges. It is of no fixed length.
+fn varying_fits(s: &[u8], at: usize, form: Form) -> bool
+    requires { ⌜ ((n : ℕ) → kindOf (layout form) ≡ Kind.Fixed n → ⊥) × ((len : ℕ) × (q : ℕ) × (len ≤ length (now s)) × (kindEnd (now s) len (kindOf (layout form)) at ≡ End.At q)) ⌝ }
+    ensures { λ r. ⌜ r ≡ fitsIn (format (layout form)) (traceAt (format (layout form)) (now (s .entry)) at) ⌝ }
+{
+    match form {
+        Form::Station => extension_fits(s, at),
+        Form::Configuration => extension_fits(s, at + 1),
+        Form::Versions => versions_fit(s, at + 1, s[at] as usize),
+        _ => true,
+    }
+}
+
+// As pass, of an item of no fixed length.
+fn pass_varying(s: &[u8], len: usize, at: usize, form: Form, kind: Kind) -> End
+    requires { ⌜ (at ≤ len) × (len ≤ length (now s)) × (kind ≡ kindOf (layout form)) × ((n : ℕ) → kind ≡ Kind.Fixed n → ⊥) ⌝ }
+    ensures { λ r. ⌜ r ≡ endOf (itemAt (now (s .entry)) len (format (layout form)) at) ⌝ }
+{
+    let end = layouts::ends::kind_end(s, len, at, kind);
+    match end {
+        End::Refused(n) => End::Refused(n),
+        End::At(q) => {
+            if varying_fits(s, at, form) {
+                End::At(q)
+            } else {
+                End::Refused(refusal::OUT_OF_RANGE)
+            }
+        }
+    }
+}
+
 // Where the item at an offset ends, or the number that refuses it: 7, 8 and 9 as met, then 11. Only for the next layer: the offset
 // lies before the block's end, that in the slice, and the field is one of a category.
 pub fn pass(s: &[u8], len: usize, at: usize, field: Field) -> End
     requires { ⌜ (at ≤ len) × (len ≤ length (now s)) × (field .1 ≡ kindOf (layout (field .0))) ⌝ }
     ensures { λ r. ⌜ r ≡ endOf (itemAt (now (s .entry)) len (format (layout (field .0))) at) ⌝ }
 {
+    let form = field.0;
     let kind = field.1;
-    let end = layouts::ends::kind_end(s, len, at, kind);
-    match end {
-        End::Refused(n) => End::Refused(n),
-        End::At(q) => {
-            let n = item_refusal(item_at(s, at, field), field, s);
-            if n == refusal::ACCEPTED {
-                End::At(q)
+    match kind {
+        Kind::Fixed(size) => {
+            if len - at < size as usize {
+                return End::Refused(refusal::PASSES_END);
+            }
+            if first_fits(s, at, form) {
+                End::At(at + size as usize)
             } else {
                 End::Refused(refusal::OUT_OF_RANGE)
             }
         }
+        _ => pass_varying(s, len, at, form, kind),
     }
 }
 

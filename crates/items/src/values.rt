@@ -2,37 +2,28 @@
 ghost use mathlib.Core.Path.{_≡_};
 ghost use mathlib.Core.Bool.{_&&_};
 ghost use mathlib.Core.List.{[], _∷_};
-ghost use Prim.Native.Nat.{_%_, _-_};
 ghost use lib.Dec.{leb, eqb};
 ghost use Rattle.octets.specs.Choice.{pick};
 ghost use Rattle.layouts.specs.Groups.{values, merge};
 ghost use Rattle.layouts.specs.Layouts.{firstGroup, entryGroup};
 ghost use Rattle.layouts.specs.Tables.{source, service, sdps, station, configuration, period, counter, version, layout};
-ghost use Rattle.items.specs.Typed.{itemOf, formOf, itemFormat, given, firstNumber, secondNumber, placeOf, exactFits, counterOf, versionOf, sourceOf, serviceOf, sdpsOf, stationOf, configurationOf};
+ghost use Rattle.items.specs.Typed.{formOf, itemFormat, given, firstNumber, secondNumber, placeOf, exactFits, counterOf, versionOf, sourceOf, serviceOf, sdpsOf, stationOf, configurationOf};
 use crate::typed::Configuration;
 use crate::typed::Counter;
 use crate::typed::HalfSeconds;
 use crate::typed::Item;
+use crate::typed::LAST_REPORT;
+use crate::typed::LAST_TYPE;
+use crate::typed::LATEST;
+use crate::typed::LONGEST;
 use crate::typed::Place;
 use crate::typed::Sdps;
 use crate::typed::Seconds;
 use crate::typed::Service;
 use crate::typed::Source;
 use crate::typed::Station;
-use crate::typed::TimeOfDay;
 use crate::typed::Version;
 use layouts::form::Form;
-
-// The content that a length octet counts beside itself.
-fn content_of(length: u64, behind: usize) -> Place
-    ensures { λ r. ⌜ r ≡ record { at = behind; count = length % 256 - 1 } ⌝ }
-{
-    let n = (length % 256) as usize;
-    Place {
-        at: behind,
-        count: if n == 0 { 0 } else { n - 1 },
-    }
-}
 
 pub fn source_of(first: u64) -> Source
     ensures { λ r. ⌜ r ≡ sourceOf (values (source .parts) first ∷ []) ⌝ }
@@ -87,37 +78,6 @@ pub fn configuration_of(first: u64, second: u64) -> Configuration
         sc: (first / 32 % 8) as u8,
         extended: (first % 2) as u8,
         ssrp: Seconds((second / 2 % 128) as u8),
-    }
-}
-
-// The item of its first group's number and its extension's, which is 0 where there is none; entries or content start at behind.
-pub fn item_of(form: Form, first: u64, second: u64, behind: usize) -> Item
-    ensures { λ r. ⌜ r ≡ itemOf form (values (firstGroup (layout form) .parts) first ∷ values (period .parts) second ∷ []) behind ⌝ }
-{
-    match form {
-        Form::Spare => Item::Absent,
-        Form::Source => Item::Source(source_of(first)),
-        Form::MessageType => Item::MessageType((first % 256) as u8),
-        Form::Service => Item::Service(service_of(first)),
-        Form::Identification => Item::Identification((first % 256) as u8),
-        Form::Time => Item::Time(TimeOfDay((first % 16777216) as u32)),
-        Form::Batch => Item::Batch((first % 256) as u8),
-        Form::Sdps => Item::Sdps(sdps_of(first)),
-        Form::Report => Item::Report((first % 256) as u8),
-        Form::Station => Item::Station(station_of(first, second)),
-        Form::Configuration => Item::Configuration(configuration_of(first, second)),
-        Form::Range => Item::Range((first % 256) as u8),
-        Form::Status => Item::Status((first / 2 % 8) as u8),
-        Form::Statistics => Item::Statistics(Place {
-            at: behind,
-            count: (first % 256) as usize,
-        }),
-        Form::Versions => Item::Versions(Place {
-            at: behind,
-            count: (first % 256) as usize,
-        }),
-        Form::Expansion => Item::Expansion(content_of(first, behind)),
-        Form::Purpose => Item::Purpose(content_of(first, behind)),
     }
 }
 
@@ -227,18 +187,18 @@ pub fn version_of(x: u64) -> Version
 }
 
 // A number from a least to a greatest.
-fn within(x: u8, least: u8, greatest: u8) -> bool
+pub fn within(x: u8, least: u8, greatest: u8) -> bool
     ensures { λ r. ⌜ r ≡ (leb least x && leb x greatest) ⌝ }
 {
     if x < least { false } else { x <= greatest }
 }
 
-// A period of 1 to 127 s, where the extension is there.
+// A period in its range, where the extension is there.
 fn period_fits(extended: u8, seconds: Seconds) -> bool
     ensures { λ r. ⌜ r ≡ pick (eqb extended 1) (leb 1 (seconds .0) && leb (seconds .0) 127) (eqb extended 0) ⌝ }
 {
     if extended == 1 {
-        within(seconds.0, 1, 127)
+        within(seconds.0, 1, LONGEST)
     } else {
         extended == 0
     }
@@ -307,11 +267,11 @@ pub fn exact_fits(item: Item) -> bool
 {
     match item {
         Item::Absent => false,
-        Item::MessageType(x) => within(x, 1, 3),
+        Item::MessageType(x) => within(x, 1, LAST_TYPE),
         Item::Service(x) => service_fits(x),
-        Item::Time(x) => x.0 <= 11059199,
+        Item::Time(x) => x.0 <= LATEST,
         Item::Sdps(x) => sdps_fits(x),
-        Item::Report(x) => within(x, 1, 16),
+        Item::Report(x) => within(x, 1, LAST_REPORT),
         Item::Station(x) => station_fits(x),
         Item::Configuration(x) => configuration_fits(x),
         Item::Status(x) => x < 8,

@@ -80,7 +80,7 @@ pub flagged-fx : (ps : List Part) (x : ℕ) → flagged ps ≡ true → lastOf (
 flagged-fx ps x h = sym (last-behind (values ps x)) ∙ fx-behind ps 0 x h
 
 -- the low bit of a number is that of its last octet
-number-low : (k : ℕ) (s : List ℕ) (o : ℕ) → 1 ≤ k → number k s o % 2 ≡ getD s (o + (k - 1)) 0 % 2
+pub number-low : (k : ℕ) (s : List ℕ) (o : ℕ) → 1 ≤ k → number k s o % 2 ≡ getD s (o + (k - 1)) 0 % 2
 unfolding number
 number-low zero s o h = absurd (omega arith)
 number-low (suc k) s o h =
@@ -163,7 +163,7 @@ module _ (s : List ℕ) (len : ℕ) where
       end-ask g (λ v. times n g) at ∙ rw (end-times n g (at + g .wide), suc-mul) (room-two len at (g .wide) (n * g .wide))
 
   module _ (o : Octets s) where
-    count-is : (at : ℕ) → getD (values (octet .parts) (number 1 s at)) 0 0 ≡ getD s at 0
+    pub count-is : (at : ℕ) → getD (values (octet .parts) (number 1 s at)) 0 0 ≡ getD s at 0
     unfolding values number
     count-is at = rw add-zero (omega (arith, o at))
 

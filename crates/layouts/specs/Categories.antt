@@ -1,11 +1,11 @@
 -- The categories (01 "Block and field specification"; 003 §5.3, 000 §5.3, 002 §5.3): field 1 is the first of a list.
 use mathlib.Core.Bool.{Bool, _||_}
 use mathlib.Core.List.{List, [], _∷_}
-use Prim.Native.Nat.{ℕ, _+_, _-_, _^_}
+use Prim.Native.Nat.{ℕ, zero, suc, _+_, _-_, _*_, _^_}
 use lib.Dec.{eqb}
 use lib.ListN.{getD}
 use Rattle.octets.specs.Choice.{pick}
-use Rattle.layouts.specs.Layouts.{Layout, kindOf}
+use Rattle.layouts.specs.Layouts.{Layout, isUnused, kindOf}
 use Rattle.layouts.specs.Tables.{layout}
 use Rattle.layouts.specs.declared.category.Field.{Field}
 use Rattle.layouts.specs.declared.form.Form.{Form}
@@ -110,3 +110,9 @@ fieldAt c f = record { 0 = formAt c f; 1 = kindOf (layoutAt c f) }
 abbrev pub fieldMarks : List ℕ → ℕ
 fieldMarks [] = 0
 fieldMarks (f ∷ fs) = 2 ^ (f - 1) + fieldMarks fs
+
+-- of n fields the marks of those that are spare, or past the list's last
+unfoldable pub unusedMarks : ℕ → List Form → ℕ
+unusedMarks zero fs = 0
+unusedMarks (suc n) [] = 1 + unusedMarks n [] * 2
+unusedMarks (suc n) (f ∷ fs) = pick (isUnused (layout f)) 1 0 + unusedMarks n fs * 2

@@ -1,6 +1,6 @@
 -- The kinds of items (01 "Items") as formats.
 use mathlib.Core.Path.{refl}
-use mathlib.Core.Bool.{Bool}
+use mathlib.Core.Bool.{Bool, true, false}
 use mathlib.Core.List.{List, [], _∷_}
 use Prim.Native.Nat.{ℕ, zero, suc, _-_}
 use lib.Dec.{leb, eqb}
@@ -21,6 +21,13 @@ pub data Layout : Type 0 where
   repeated : Group → Layout
   -- a length that counts itself, and opaque content
   explicit : Layout
+
+abbrev pub isUnused : Layout → Bool
+isUnused unused = true
+isUnused (fixed g) = false
+isUnused (extended g hs) = false
+isUnused (repeated g) = false
+isUnused explicit = false
 
 -- one octet, any value
 abbrev pub octet : Group

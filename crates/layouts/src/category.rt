@@ -1,6 +1,6 @@
 // The categories: a type for each, with its constants (document 01, "Block and field specification").
 ghost use mathlib.Core.Path.{_≡_};
-ghost use Rattle.layouts.specs.Categories.{cat23, cat65, cat242, known, category, fieldAt, fieldMarks};
+ghost use Rattle.layouts.specs.Categories.{cat23, cat65, cat242, known, category, fieldAt, fieldMarks, unusedMarks};
 use crate::ends::Kind;
 use crate::form::Form;
 
@@ -19,6 +19,9 @@ impl Cat23 {
 
     // Bit f - 1 is field f: 000 and 070.
     pub const MANDATORY: u32 = 0b1010;
+
+    // The spare fields, 10 to 12, and those past the last.
+    pub const UNUSED: u32 = 0xFFFF_CE00;
 
     pub const I010: Field = Field(Form::Source, Kind::Fixed(2));
 
@@ -73,6 +76,9 @@ impl Cat65 {
     // Bit f - 1 is field f: 010, 000, 015 and 030.
     pub const MANDATORY: u32 = 0b1111;
 
+    // The spare fields, 8 to 12, and those past the last.
+    pub const UNUSED: u32 = 0xFFFF_CF80;
+
     pub const I010: Field = Field(Form::Source, Kind::Fixed(2));
 
     pub const I000: Field = Field(Form::MessageType, Kind::Fixed(1));
@@ -119,6 +125,9 @@ impl Cat242 {
 
     // Bit f - 1 is field f: 010, 140 and 550.
     pub const MANDATORY: u32 = 0b111;
+
+    // The spare fields, 4 and 5, and those past the last.
+    pub const UNUSED: u32 = 0xFFFF_FF98;
 
     pub const I010: Field = Field(Form::Source, Kind::Fixed(2));
 
@@ -177,6 +186,18 @@ pub fn mandatory_of(number: u8) -> u32
         Cat65::NUMBER => Cat65::MANDATORY,
         Cat242::NUMBER => Cat242::MANDATORY,
         _ => 0,
+    }
+}
+
+// The marks that no record of a category has: of 32 fields those that are spare, or past the category's last.
+pub fn unused_of(number: u8) -> u32
+    ensures { λ r. ⌜ r ≡ unusedMarks 32 (category number .fields) ⌝ }
+{
+    match number {
+        Cat23::NUMBER => Cat23::UNUSED,
+        Cat65::NUMBER => Cat65::UNUSED,
+        Cat242::NUMBER => Cat242::UNUSED,
+        _ => 0xFFFF_FFFF,
     }
 }
 

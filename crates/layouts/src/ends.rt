@@ -92,8 +92,8 @@ pub fn specification_end(s: &[u8], len: usize, at: usize, most: u8) -> End
     chain_end(s, len, at, refusal::LONG_SPECIFICATION, 1, more)
 }
 
-// Where an item of a kind ends. Only for the next layer: the offset lies before the block's end, and that in the slice.
-pub fn kind_end(s: &[u8], len: usize, at: usize, kind: Kind) -> End
+// Where an item of any kind ends. `kind_end` answers for a fixed length itself, so that it is small.
+fn varying_end(s: &[u8], len: usize, at: usize, kind: Kind) -> End
     requires { ⌜ (at ≤ len) × (len ≤ length (now s)) ⌝ }
     ensures { λ r. ⌜ r ≡ kindEnd (now (s .entry)) len kind at ⌝ }
 {
@@ -103,5 +103,16 @@ pub fn kind_end(s: &[u8], len: usize, at: usize, kind: Kind) -> End
         Kind::Extended(size, more) => chain_end(s, len, at, refusal::PAST_LAST, size, more),
         Kind::Repeated(size) => counted_end(s, len, at, 0, size),
         Kind::Explicit => counted_end(s, len, at, 1, 1),
+    }
+}
+
+// Where an item of a kind ends. Only for the next layer: the offset lies before the block's end, and that in the slice.
+pub fn kind_end(s: &[u8], len: usize, at: usize, kind: Kind) -> End
+    requires { ⌜ (at ≤ len) × (len ≤ length (now s)) ⌝ }
+    ensures { λ r. ⌜ r ≡ kindEnd (now (s .entry)) len kind at ⌝ }
+{
+    match kind {
+        Kind::Fixed(size) => room_end(len, at, size as usize),
+        _ => varying_end(s, len, at, kind),
     }
 }

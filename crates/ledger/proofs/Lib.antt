@@ -8,6 +8,7 @@ pub mod HeldLaws
 pub mod EntryLaws
 pub mod NotedLaws
 pub mod LoopSteps
+pub mod KnownLaws
 pub mod ReportLaws
 pub mod RecordNumbers
 pub mod PostSteps

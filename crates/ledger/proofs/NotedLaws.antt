@@ -34,12 +34,34 @@ get-same a (suc n) zero = refl
 get-same a (suc n) (suc u) = get-same a n u
 
 -- at first none has been seen
-pub seen-none : (Q : ℕ → Option Row → Type 0) (rows : List Row) (first n : ℕ) → Seen Q rows rows first (replicate n false)
-seen-none Q rows first n = record { other = λ u h. refl; own = λ u h. absurd (false≢true (sym (get-same false n u) ∙ h)) }
+pub none-seen : {P : Type 0} (n u : ℕ) → getD (replicate n false) u false ≡ true → P
+none-seen n u h = absurd (false≢true (sym (get-same false n u) ∙ h))
 
--- a TYPE that has been seen is seen again
-pub seen-again : (seen : List Bool) (t : ℕ) → getD seen t false ≡ true → seen ≡ set seen t true
-seen-again seen t h = subst (λ b. seen ≡ set seen t b) h (sym (set-getD seen t false))
+pub seen-none : (Q : ℕ → Option Row → Type 0) (rows : List Row) (first n : ℕ) → Seen Q rows rows first (replicate n false)
+seen-none Q rows first n = record { other = λ u h. refl; own = λ u h. none-seen n u h }
+
+module _ (seen : List Bool) (t : ℕ) where
+  -- a TYPE that has been seen is seen again
+  pub seen-again : getD seen t false ≡ true → seen ≡ set seen t true
+  seen-again h = subst (λ b. seen ≡ set seen t b) h (sym (set-getD seen t false))
+
+  -- a TYPE is seen, and no other
+  seen-same : t < length seen → (u : ℕ) → t ≡ u → getD (set seen t true) u false ≡ true
+  seen-same h u q = subst (λ v. getD (set seen t true) v false ≡ true) q (getD-set-same seen t true false h)
+
+  seen-far : (u : ℕ) → (t ≡ u → ⊥) → getD (set seen t true) u false ≡ getD seen u false
+  seen-far u n = getD-set-other seen t u true false (λ q. n (sym q))
+
+  -- those that had been seen still are
+  pub seen-still : t < length seen → (u : ℕ) → getD seen u false ≡ true → getD (set seen t true) u false ≡ true
+  seen-still h u g = test (eqb t u) (λ y. seen-same h u (eqb-true t u y)) (λ z. seen-far u (eqb-false t u z) ∙ g)
+
+  -- what is said of each that has been seen
+  pub seen-own : {Q R : ℕ → Type 0} → ((u : ℕ) → (t ≡ u → ⊥) → Q u → R u) → R t
+      → ((u : ℕ) → getD seen u false ≡ true → Q u) → (u : ℕ) → getD (set seen t true) u false ≡ true → R u
+  seen-own {Q} {R} keeps new own u g =
+      test (eqb t u) (λ y. subst R (eqb-true t u y) new)
+      (λ z. let n = eqb-false t u z in keeps u n (own u (sym (seen-far u n) ∙ g)))
 
 -- a TYPE is seen, its row noted, and no other row changes
 seen-set : {Q R : ℕ → Option Row → Type 0} {rows now next : List Row} {first : ℕ} {seen : List Bool} (t : ℕ) → t < length seen
@@ -47,18 +69,11 @@ seen-set : {Q R : ℕ → Option Row → Type 0} {rows now next : List Row} {fir
     → ((u : ℕ) → (t ≡ u → ⊥) → (r : Option Row) → Q u r → R u r)
     → R t (rowOf next (first + t)) → Seen Q rows now first seen → Seen R rows next first (set seen t true)
 seen-set {Q} {R} {rows} {now} {next} {first} {seen} t h stays keeps new s = record {
-  other = λ u f. test (eqb t u) (λ y. absurd (true≢false (sym (same u (eqb-true t u y)) ∙ f)))
-      (λ z. let n = eqb-false t u z in stays u n ∙ s .other u (sym (far u n) ∙ f));
-  own = λ u g. test (eqb t u) (λ y. subst (λ v. R v (rowOf next (first + v))) (eqb-true t u y) new)
-      (λ z. let n = eqb-false t u z in
-      keeps u n (rowOf next (first + u)) (subst (Q u) (sym (stays u n)) (s .own u (sym (far u n) ∙ g))));
+  other = λ u f. test (eqb t u) (λ y. absurd (true≢false (sym (seen-same seen t h u (eqb-true t u y)) ∙ f)))
+      (λ z. let n = eqb-false t u z in stays u n ∙ s .other u (sym (seen-far seen t u n) ∙ f));
+  own = seen-own seen t {Q = λ u. Q u (rowOf now (first + u))} {R = λ u. R u (rowOf next (first + u))}
+      (λ u n g. keeps u n (rowOf next (first + u)) (subst (Q u) (sym (stays u n)) g)) new (s .own);
 }
-  where
-    same : (u : ℕ) → t ≡ u → getD (set seen t true) u false ≡ true
-    same u q = subst (λ v. getD (set seen t true) v false ≡ true) q (getD-set-same seen t true false h)
-
-    far : (u : ℕ) → (t ≡ u → ⊥) → getD (set seen t true) u false ≡ getD seen u false
-    far u n = getD-set-other seen t u true false (λ q. n (sym q))
 
 -- an entry changes no row of another TYPE
 others : (now : List Row) (first time : ℕ) (x : Counter) (u : ℕ) → (x .typ ≡ u → ⊥)

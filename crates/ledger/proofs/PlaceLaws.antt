@@ -141,12 +141,12 @@ module _ (rule : Row → Entry → Row) (keeps-key : (r : Row) (e : Entry) → r
         (rw (row-own rule keeps-key e (rowsOf l) (g .good .rises), found-row l (e .key) i f h same) at low)
 
     -- its row changes
-    pub row-adds : (life reading : ℕ) → life ≡ rule (rowIn l i) e .life → reading ≡ rule (rowIn l i) e .reading
-        → columns (l .count) (l .keys) (set (l .lives) i life) (set (l .readings) i reading) ≡ ledgerOf (addEntry rule (rowsOf l) e)
-    row-adds life reading a b =
+    pub row-adds : (ls rs : List ℕ) → (ls ≡ set (l .lives) i (rule (rowIn l i) e .life)) × (rs ≡ set (l .readings) i (rule (rowIn l i) e .reading))
+        → columns (l .count) (l .keys) ls rs ≡ ledgerOf (addEntry rule (rowsOf l) e)
+    row-adds ls rs o =
         let x = rule (rowIn l i) e in
         let key : l .keys ≡ set (l .keys) i (x .key) = sym (ap (set (l .keys) i) (keeps-key (rowIn l i) e) ∙ set-getD (l .keys) i 0) in
-        (λ p. columns (l .count) (key p) (set (l .lives) i (a p)) (set (l .readings) i (b p)))
+        (λ p. columns (l .count) (key p) (o .0 p) (o .1 p))
         ∙ ap (λ m. setRow m i x) (g .rest)
         ∙ set-row (rowsOf l) i x (omega (arith, rows-many l))
         ∙ ap (λ r. ledgerOf (set (rowsOf l) i (rule r e))) (sym (rows-get l i h))

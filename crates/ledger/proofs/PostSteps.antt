@@ -6,13 +6,13 @@ use Prim.Native.Nat.{ℕ, _≤_}
 use borrow.Author.Tests.{lt-ltb, le-ltb, leb-true, leb-false}
 use lib.Dec.{leb}
 use Rattle.octets.specs.Refusals.{notStatistics, rulesBroken, noRoom, lifePasses}
-use Rattle.blocks.specs.Statistics.{statisticsOf}
+use Rattle.blocks.specs.Statistics.{isStatistics, statisticsOf}
 use Rattle.blocks.specs.declared.record.Record.{Record}
 use Rattle.blocks.specs.declared.statistics.Statistics.{Statistics}
-use Rattle.rows.specs.Rows.{Entry, keyOf, addUp}
+use Rattle.rows.specs.Rows.{Entry, addUp}
 use Rattle.rows.specs.Posting.{Report, refused, counts, rowsFor, passes, addAll, postRows}
 use Rattle.ledger.specs.Ledgers.{answer, rowsOf, ledgerOf, keepsRules}
-use Rattle.ledger.specs.Reports.{isStatistics, entriesFrom, reportIn, reportOf}
+use Rattle.ledger.specs.Reports.{firstKey, entriesFrom, entriesAt, reportIn, reportOf}
 use Rattle.ledger.specs.Posts.{postedTo, postOf}
 use Rattle.ledger.specs.Steps.{Kept}
 use Rattle.ledger.specs.declared.Ledger.{Ledger}
@@ -48,32 +48,35 @@ module _ (l : Ledger) (es : ℕ → List Entry) (a : Bool) (room : (time : ℕ) 
       → (time : ℕ) → (rowsFor (rowsOf l) (es time) ≤ 256) × (passes addUp (rowsOf l) (es time) ≡ false)
   may-add b over p time = (few time, sym (over time) ∙ p)
 
+-- Entries posted to a ledger that keeps the rules, whatever the record's time
+module _ (l : Ledger) (k : Kept l) (es : ℕ → List Entry) where
+  module _ (a : Bool) (room : (time : ℕ) → a ≡ leb (rowsFor (rowsOf l) (es time)) 256) where
+    pub post-no-room : a ≡ false → (time : ℕ) → answer noRoom l ≡ postedTo l (counts (es time))
+    post-no-room h time = no-room l k (es time) (sym (room time) ∙ h)
+
+    pub post-passes : a ≡ true → (b : Bool) → ((time : ℕ) → b ≡ passes addUp (rowsOf l) (es time)) → b ≡ true
+        → (time : ℕ) → answer lifePasses l ≡ postedTo l (counts (es time))
+    post-passes h b over p time = life-passes l k (es time) (few l es a room h time) (sym (over time) ∙ p)
+
+  pub post-added : ((time : ℕ) → (rowsFor (rowsOf l) (es time) ≤ 256) × (passes addUp (rowsOf l) (es time) ≡ false))
+      → (m : Ledger) → ((time : ℕ) → m ≡ ledgerOf (addAll addUp (rowsOf l) (es time)))
+      → (time : ℕ) → answer 0 m ≡ postedTo l (counts (es time))
+  post-added may m added time = all-added l k (es time) (may time .0) (may time .1) m (added time)
+
+-- A report of given numbers: its entries are posted, to an equal ledger
+pub post-entries : (l m : Ledger) → m ≡ l → (s : List ℕ) (r : Statistics) (first : ℕ) → first ≡ firstKey r
+    → (a : Answer) → ((time : ℕ) → a ≡ postedTo m (counts (entriesFrom s first time (r .at) (r .count) 0)))
+    → (time : ℕ) → a ≡ postedTo l (counts (entriesAt s time r))
+post-entries l m e s r first f a posted time = posted time ∙ rw (e, f)
+
 -- A typed record posted to a ledger that keeps the rules
 module _ (l : Ledger) (k : Kept l) (s : List ℕ) (t : Record) where
   pub post-other : isStatistics t ≡ false → answer notStatistics l ≡ postedTo l (reportIn s t)
   post-other e = post-refused l k notStatistics ∙ ap (postedTo l) (report-other s t e)
 
-  -- a statistics report, with its numbers and its first key
-  module _ (e : isStatistics t ≡ true) (r : Statistics) (is : r ≡ statisticsOf t)
-      (first : ℕ) (f : first ≡ keyOf (r .sac) (r .sic) (r .service) 0) where
-    abbrev es : ℕ → List Entry
-    es time = entriesFrom s first time (r .at) (r .count) 0
-
-    same : postedTo l (counts (es (t .time .0))) ≡ postedTo l (reportIn s t)
-    same = ap (postedTo l) (report-counts s t e r is first f)
-
-    module _ (a : Bool) (room : (time : ℕ) → a ≡ leb (rowsFor (rowsOf l) (es time)) 256) where
-      pub post-no-room : a ≡ false → answer noRoom l ≡ postedTo l (reportIn s t)
-      post-no-room h = no-room l k (es (t .time .0)) (sym (room (t .time .0)) ∙ h) ∙ same
-
-      module _ (h : a ≡ true) (b : Bool) (over : (time : ℕ) → b ≡ passes addUp (rowsOf l) (es time)) where
-        pub post-passes : b ≡ true → answer lifePasses l ≡ postedTo l (reportIn s t)
-        post-passes p = life-passes l k (es (t .time .0)) (few l es a room h (t .time .0)) (sym (over (t .time .0)) ∙ p) ∙ same
-
-        pub post-added : b ≡ false → (m : Ledger) → ((time : ℕ) → m ≡ ledgerOf (addAll addUp (rowsOf l) (es time)))
-            → answer 0 m ≡ postedTo l (reportIn s t)
-        post-added p m added =
-            all-added l k (es (t .time .0)) (few l es a room h (t .time .0)) (sym (over (t .time .0)) ∙ p) m (added (t .time .0)) ∙ same
+  pub post-statistics : isStatistics t ≡ true → (r : Statistics) → r ≡ statisticsOf t
+      → (a : Answer) → ((time : ℕ) → a ≡ postedTo l (counts (entriesAt s time r))) → a ≡ postedTo l (reportIn s t)
+  post-statistics e r is a posted = posted (t .time .0) ∙ ap (postedTo l) (report-counts s t e r is)
 
 -- Octets and a record number posted to any ledger
 module _ (l : Ledger) (s : List ℕ) (k : ℕ) where

@@ -8,8 +8,8 @@ use borrow.Author.Tests.{eqb-true}
 use lib.ListN.{length}
 use Rattle.octets.specs.Numbers.{Octets}
 use Rattle.octets.specs.Refusals.{notStatistics}
-use Rattle.blocks.specs.Statistics.{statisticsOf}
-use Rattle.blocks.specs.Steps.{takeOf, stepOf}
+use Rattle.blocks.specs.Statistics.{isStatistics, statisticsOf}
+use Rattle.blocks.specs.Steps.{stepOf}
 use Rattle.blocks.specs.Walks.{readOf}
 use Rattle.blocks.specs.declared.record.Record.{Record}
 use Rattle.blocks.specs.declared.cursor.Cursor.{Cursor}
@@ -18,10 +18,9 @@ use Rattle.blocks.specs.declared.cursor.Step.the-variants as step
 use Rattle.blocks.specs.declared.statistics.Statistics.{Statistics}
 use Rattle.blocks.specs.declared.walk.Reading.{Reading}
 use Rattle.blocks.proofs.StepLaws.{not-taken, ofStep, by-step, entries-room}
-use Rattle.blocks.proofs.TakenLaws.{Inside, service-narrow, take-room, step-narrow}
-use Rattle.rows.specs.Rows.{keyOf}
+use Rattle.blocks.proofs.TakenLaws.{step-narrow}
 use Rattle.rows.specs.Posting.{refused, counts}
-use Rattle.ledger.specs.Reports.{isStatistics, entriesFrom, reportIn, stepAt, reportOf}
+use Rattle.ledger.specs.Reports.{entriesAt, reportIn, stepAt, reportOf}
 use Rattle.ledger.specs.Steps.{Lies}
 
 -- What holds of every record that a step hands out
@@ -30,13 +29,6 @@ pub lies : (s : List ℕ) (start : ℕ) (t : Record) (c : Cursor) → Octets s �
 lies s start t c o h =
     let n = step-narrow s start t c o h in
     record { room = entries-room s start t c o h; sid = n .0; styp = n .1 }
-
--- the same of a step inside a block whose header is good
-pub lies-take : (s : List ℕ) (len number at : ℕ) (t : Record) (c : Cursor) → Inside s len number at → Octets s
-    → Step.Taken t c ≡ takeOf s len number at → Lies s t
-lies-take s len number at t c w o h =
-    let n = service-narrow s len number at t c w o h in
-    record { room = take-room s len number at t c w o h; sid = n .0; styp = n .1 }
 
 -- Record k from a start: a step first, and then record k - 1 from where the step ended
 module _ (s : List ℕ) where
@@ -82,10 +74,9 @@ module _ (s : List ℕ) (t : Record) where
   report-other e = rw e
 
   module _ (e : isStatistics t ≡ true) (r : Statistics) (is : r ≡ statisticsOf t) where
-    pub report-counts : (first : ℕ) → first ≡ keyOf (r .sac) (r .sic) (r .service) 0
-        → counts (entriesFrom s first (t .time .0) (r .at) (r .count) 0) ≡ reportIn s t
+    pub report-counts : counts (entriesAt s (t .time .0) r) ≡ reportIn s t
     unfolding reportIn
-    report-counts first f = rw (e, f, is)
+    report-counts = rw (e, is)
 
     -- its entries lie in the octets, six to each
     pub entries-lie : Lies s t → r .at + r .count * 6 ≤ length s

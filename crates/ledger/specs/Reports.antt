@@ -1,16 +1,13 @@
 -- The report that octets and a record number are (01 "Ledger", refusals 1 to 11, 17 and 13).
-use mathlib.Core.Bool.{Bool, false, _&&_}
 use mathlib.Core.List.{List, [], _∷_}
-use Prim.Native.Nat.{ℕ, zero, suc, _+_, _-_}
-use lib.Dec.{eqb}
-use lib.ListN.{getD}
+use Prim.Native.Nat.{ℕ, zero, suc, _+_}
 use Rattle.octets.specs.Choice.{pick}
 use Rattle.octets.specs.Refusals.{notStatistics}
-use Rattle.blocks.specs.Marks.{flagsOf}
-use Rattle.blocks.specs.Statistics.{statisticsOf, entryOf}
+use Rattle.blocks.specs.Statistics.{isStatistics, statisticsOf, entryOf}
 use Rattle.blocks.specs.Steps.{stepBy, stepOf}
 use Rattle.blocks.specs.Walks.{readOf}
 use Rattle.blocks.specs.declared.record.Record.{Record}
+use Rattle.blocks.specs.declared.statistics.Statistics.{Statistics}
 use Rattle.blocks.specs.declared.cursor.Step.{Step}
 use Rattle.blocks.specs.declared.cursor.Step.the-variants as step
 use Rattle.blocks.specs.declared.walk.Reading.{Reading}
@@ -18,16 +15,9 @@ use Rattle.blocks.specs.declared.walk.Reading.the-variants as reading
 use Rattle.rows.specs.Rows.{Entry, keyOf}
 use Rattle.rows.specs.Posting.{Report, refused, counts}
 
-abbrev marked : Record → ℕ → Bool
-marked t f = getD (flagsOf 32 (t .marks)) (f - 1) false
-
--- a statistics report: category 23 type 3, with 010 (field 1), 015 (field 3) and 120 (field 9)
-abbrev pub isStatistics : Record → Bool
-isStatistics t = eqb (t .category) 23 && eqb (t .«message_type») 3 && marked t 1 && marked t 3 && marked t 9
-
--- the keys of a record's counters begin here: that of TYPE 0
-abbrev pub firstKey : Record → ℕ
-firstKey t = keyOf (statisticsOf t .sac) (statisticsOf t .sic) (statisticsOf t .service) 0
+-- the keys of a report's counters begin here: that of TYPE 0
+abbrev pub firstKey : Statistics → ℕ
+firstKey r = keyOf (r .sac) (r .sic) (r .service) 0
 
 -- n entries from the k-th on, of those that lie from an offset, with the key of TYPE 0 and the record's time
 module _ (s : List ℕ) (first time at : ℕ) where
@@ -38,9 +28,12 @@ module _ (s : List ℕ) (first time at : ℕ) where
   entriesFrom zero k = []
   entriesFrom (suc n) k = entryAt k ∷ entriesFrom n (suc k)
 
--- the entries of a record
+-- the entries that a report's numbers name, with a time; and those of a record
+abbrev pub entriesAt : List ℕ → ℕ → Statistics → List Entry
+entriesAt s time r = entriesFrom s (firstKey r) time (r .at) (r .count) 0
+
 abbrev pub entriesOf : List ℕ → Record → List Entry
-entriesOf s t = entriesFrom s (firstKey t) (t .time .0) (statisticsOf t .at) (statisticsOf t .count) 0
+entriesOf s t = entriesAt s (t .time .0) (statisticsOf t)
 
 -- the report that a typed record is
 unfoldable pub reportIn : List ℕ → Record → Report

@@ -2,8 +2,9 @@
 use mathlib.Core.List.{List, [], _∷_}
 use mathlib.Core.Option.{Option, none, some}
 use mathlib.Core.Path.{_≡_}
-use Prim.Native.Nat.{ℕ, zero, suc, _+_, _*_, _≤_, _<_}
+use Prim.Native.Nat.{ℕ, zero, suc, _+_, _*_, _≤_, _<_, _^_}
 use lib.ListN.{length, getD}
+use Rattle.blocks.specs.Statistics.{entryOf}
 use Rattle.blocks.specs.Steps.{entryGroupOf}
 use Rattle.blocks.specs.declared.record.Record.{Record}
 use Rattle.rows.specs.Rows.{Row, Entry}
@@ -32,6 +33,19 @@ pub record Found (keys : List ℕ) (n k r : ℕ) : Type 0 where
   pub within : r ≤ n
   pub below : (j : ℕ) → j < r → getD keys j 0 < k
   pub above : r < n → k ≤ getD keys r 0
+
+-- a key has a row at a place, and no report brings its life count to the end
+pub record KnownRow (count : ℕ) (keys lives : List ℕ) (k r : ℕ) : Type 0 where
+  pub inside : r < count
+  pub same : getD keys r 0 ≡ k
+  pub far : getD lives r 0 + 2 ^ 40 ≤ 2 ^ 64
+
+-- each of n entries has a key with such a row, whose place stands by TYPE
+pub record Known (count : ℕ) (keys lives s : List ℕ) (first at n : ℕ) (places : List ℕ) : Type 0 where
+  pub few : n < 256
+  pub long : length places ≡ 256
+  pub rows : (i : ℕ) → i < n → KnownRow count keys lives (first + entryOf s at i .typ) (getD places (entryOf s at i .typ) 0)
+  pub small : (i : ℕ) → i < n → entryOf s at i .count < 2 ^ 32
 
 -- a list with one more at a place, and with one less
 unfoldable pub insertAt : ℕ → ℕ → List ℕ → List ℕ

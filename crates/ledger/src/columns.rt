@@ -3,8 +3,8 @@ ghost use mathlib.Core.Bool.{false};
 ghost use mathlib.Core.Path.{_≡_};
 ghost use Prim.Native.Nat.{ℕ, _+_, _≤_, _<_, _^_};
 ghost use lib.Dec.{leb};
-ghost use lib.ListN.{length};
-ghost use Rattle.rows.specs.Rows.{addUp, rowOf, lifeOf};
+ghost use lib.ListN.{length, getD, set};
+ghost use Rattle.rows.specs.Rows.{adds, reads, addUp, rowOf, lifeOf};
 ghost use Rattle.rows.specs.Posting.{addEntry};
 ghost use Rattle.ledger.specs.Ledgers.{columns, rowsOf, ledgerOf};
 ghost use Rattle.ledger.specs.Steps.{Kept, Rising, Found, opened, heldOf, entry};
@@ -19,7 +19,7 @@ pub(crate) struct Row {
 }
 
 // The first of the first `n` places whose key is at least `key`, or `n`.
-fn find(keys: &[u32; 256], n: usize, key: u32) -> usize
+pub(crate) fn find(keys: &[u32; 256], n: usize, key: u32) -> usize
     requires { ⌜ (n ≤ 256) × Rising (now keys) n ⌝ }
     ensures { λ r. ⌜ Found (now (keys .entry)) n key r ⌝ }
 {
@@ -103,6 +103,23 @@ fn open(
     }
 }
 
+// An entry added up to the row at a place. The caller has seen that its life count does not pass.
+pub(crate) fn add_at(
+    lives: &mut [u64; 256],
+    readings: &mut [u32; 256],
+    i: usize,
+    reference: u8,
+    amount: u32,
+)
+    requires { ⌜ (i < 256) × (getD (now lives) i 0 + adds (getD (now readings) i 0) reference amount < 2 ^ 64) ⌝ }
+    ensures { λ _. ⌜ (now (lives .exit) ≡ set (now (lives .entry)) i (getD (now (lives .entry)) i 0 + adds (getD (now (readings .entry)) i 0) reference amount))
+        × (now (readings .exit) ≡ set (now (readings .entry)) i (reads (getD (now (readings .entry)) i 0) reference amount)) ⌝ }
+{
+    let reading = readings[i];
+    lives[i] = lives[i] + added(reading, reference, amount) as u64;
+    readings[i] = read_after(reading, reference, amount);
+}
+
 // An entry added up to its counter's row, or to a new one. The caller has seen that there is room and that no life count passes.
 pub(crate) fn add_entry(
     count: &mut usize,
@@ -123,9 +140,7 @@ pub(crate) fn add_entry(
     let i = find(keys, n, key);
     if i < n {
         if keys[i] == key {
-            let reading = readings[i];
-            lives[i] = lives[i] + added(reading, reference, amount) as u64;
-            readings[i] = read_after(reading, reference, amount);
+            add_at(lives, readings, i, reference, amount);
             return;
         }
     }

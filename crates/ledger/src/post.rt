@@ -4,15 +4,17 @@ ghost use mathlib.Core.Bool.{true, false};
 ghost use Prim.Native.Nat.{ℕ, _+_, _*_, _≤_, _<_, _^_};
 ghost use lib.Dec.{leb};
 ghost use lib.ListN.{length};
-ghost use Rattle.rows.specs.Rows.{keyOf, addUp};
-ghost use Rattle.rows.specs.Posting.{rowsFor, passes, addAll};
+ghost use Rattle.rows.specs.Rows.{addUp};
+ghost use Rattle.rows.specs.Posting.{counts, rowsFor, passes, addAll};
 ghost use Rattle.ledger.specs.Ledgers.{columns, answer, rowsOf, ledgerOf, Held};
-ghost use Rattle.ledger.specs.Reports.{isStatistics, entriesFrom, reportIn, stepAt};
+ghost use Rattle.ledger.specs.Reports.{firstKey, entriesFrom, entriesAt, reportIn, stepAt};
 ghost use Rattle.ledger.specs.Posts.{postedTo, postOf};
-ghost use Rattle.ledger.specs.Steps.{Kept, Lies};
+ghost use Rattle.ledger.specs.Steps.{Kept, Rising, Known, Lies};
 use crate::Answer;
 use crate::Ledger;
+use crate::columns::add_at;
 use crate::columns::add_entry;
+use crate::columns::find;
 use crate::columns::held;
 use crate::rules::is_kept;
 use crate::sums::added;
@@ -20,29 +22,18 @@ use crate::sums::is_past;
 use crate::sums::read_after;
 use blocks::cursor::Cursor;
 use blocks::cursor::Step;
-use blocks::marks::is_marked;
 use blocks::record::Record;
 use blocks::statistics::Statistics;
 use blocks::statistics::counter;
+use blocks::statistics::is_statistics;
 use blocks::statistics::statistics_of;
 use blocks::walk::Reading;
 use blocks::walk::read;
 use octets::refusal;
 
-// Whether a typed record is a statistics report.
-fn is_statistics(record: Record) -> bool
-    ensures { λ r. ⌜ r ≡ isStatistics «record» ⌝ }
-{
-    (record.category == 23)
-        & (record.message_type == 3)
-        & is_marked(record.marks, 1)
-        & is_marked(record.marks, 3)
-        & is_marked(record.marks, 9)
-}
-
 // The key of TYPE 0 among a report's counters.
 fn first_key(report: Statistics) -> u32
-    ensures { λ r. ⌜ (r ≡ keyOf (report .sac) (report .sic) (report .service) 0) × (r + 255 < 2 ^ 32) ⌝ }
+    ensures { λ r. ⌜ (r ≡ firstKey report) × (r + 255 < 2 ^ 32) ⌝ }
 {
     ((report.sac as u32 * 256 + report.sic as u32) * 256 + report.service as u32) * 256
 }
@@ -151,6 +142,145 @@ fn add_all(
     }
 }
 
+// From here on a life count could pass by a report, which adds less than 2^40.
+const NEAR: u64 = 0xFFFF_FF00_0000_0000;
+
+// Whether each counter of n entries has a row whose life count is far from its end. Then `places` has the row's place, by TYPE.
+fn all_known(
+    count: usize,
+    keys: &[u32; 256],
+    lives: &[u64; 256],
+    s: &[u8],
+    first: u32,
+    at: usize,
+    n: usize,
+    places: &mut [u8; 256],
+) -> bool
+    requires { ⌜ (count ≤ 256) × Rising (now keys) count × (first + 255 < 2 ^ 32) × (at + n * 6 ≤ length (now s)) × (length (now places) ≡ 256) ⌝ }
+    ensures { λ r. ⌜ (r ≡ true → Known count (now (keys .entry)) (now (lives .entry)) (now (s .entry)) first at n (now (places .exit))) ⌝ }
+{
+    if n > 255 {
+        return false;
+    }
+    let mut seen = [false; 256];
+    let mut i: usize = 0;
+    while i < n {
+        let entry = counter(s, at, i);
+        let typ = entry.typ as usize;
+        if !seen[typ] {
+            let key = first + entry.typ as u32;
+            let row = find(keys, count, key);
+            if row >= count {
+                return false;
+            }
+            if keys[row] != key {
+                return false;
+            }
+            if lives[row] >= NEAR {
+                return false;
+            }
+            seen[typ] = true;
+            places[typ] = row as u8;
+        }
+        i += 1;
+    }
+    true
+}
+
+// Posts the usual report, whose counters all have rows far from their end; or leaves the columns as they are, and answers false.
+fn post_known(
+    count: usize,
+    keys: &[u32; 256],
+    lives: &mut [u64; 256],
+    readings: &mut [u32; 256],
+    s: &[u8],
+    first: u32,
+    at: usize,
+    n: usize,
+) -> bool
+    requires { ⌜ Kept (columns count (now keys) (now lives) (now readings)) × (first + 255 < 2 ^ 32) × (at + n * 6 ≤ length (now s)) ⌝ }
+    ensures { λ r. ⌜ (r ≡ true → (time : ℕ) → answer 0 (columns count (now (keys .entry)) (now (lives .exit)) (now (readings .exit)))
+        ≡ postedTo (columns count (now (keys .entry)) (now (lives .entry)) (now (readings .entry))) (counts (entriesFrom (now (s .entry)) first time at n 0)))
+        × (r ≡ false → columns count (now (keys .entry)) (now (lives .exit)) (now (readings .exit))
+        ≡ columns count (now (keys .entry)) (now (lives .entry)) (now (readings .entry))) ⌝ }
+{
+    let mut places = [0u8; 256];
+    if !all_known(count, keys, lives, s, first, at, n, &mut places) {
+        return false;
+    }
+    let mut i: usize = 0;
+    while i < n {
+        let entry = counter(s, at, i);
+        let row = places[entry.typ as usize] as usize;
+        add_at(lives, readings, row, entry.reference, entry.count);
+        i += 1;
+    }
+    true
+}
+
+// Posts any report: it is judged whole before an entry is added up.
+fn post_any(
+    count: &mut usize,
+    keys: &mut [u32; 256],
+    lives: &mut [u64; 256],
+    readings: &mut [u32; 256],
+    s: &[u8],
+    first: u32,
+    at: usize,
+    n: usize,
+) -> u8
+    requires { ⌜ Kept (columns (now count) (now keys) (now lives) (now readings)) × (first + 255 < 2 ^ 32) × (at + n * 6 ≤ length (now s)) ⌝ }
+    ensures { λ r. ⌜ ((time : ℕ) → answer r (columns (now (count .exit)) (now (keys .exit)) (now (lives .exit)) (now (readings .exit)))
+        ≡ postedTo (columns (now (count .entry)) (now (keys .entry)) (now (lives .entry)) (now (readings .entry))) (counts (entriesFrom (now (s .entry)) first time at n 0))) ⌝ }
+{
+    if !has_room(*count, keys, lives, readings, s, first, at, n) {
+        return refusal::NO_ROOM;
+    }
+    if some_passes(*count, keys, lives, readings, s, first, at, n) {
+        return refusal::LIFE_PASSES;
+    }
+    add_all(count, keys, lives, readings, s, first, at, n);
+    refusal::ACCEPTED
+}
+
+// A statistics report posted to lent columns. For the next layer: the columns keep the rules, and the entries lie in the octets.
+pub fn post_report(
+    count: &mut usize,
+    keys: &mut [u32; 256],
+    lives: &mut [u64; 256],
+    readings: &mut [u32; 256],
+    s: &[u8],
+    report: Statistics,
+) -> u8
+    requires { ⌜ Kept (columns (now count) (now keys) (now lives) (now readings)) × (report .at + report .count * 6 ≤ length (now s)) ⌝ }
+    ensures { λ r. ⌜ ((time : ℕ) → answer r (columns (now (count .exit)) (now (keys .exit)) (now (lives .exit)) (now (readings .exit)))
+        ≡ postedTo (columns (now (count .entry)) (now (keys .entry)) (now (lives .entry)) (now (readings .entry))) (counts (entriesAt (now (s .entry)) time report))) ⌝ }
+{
+    let first = first_key(report);
+    if post_known(
+        *count,
+        keys,
+        lives,
+        readings,
+        s,
+        first,
+        report.at,
+        report.count,
+    ) {
+        return refusal::ACCEPTED;
+    }
+    post_any(
+        count,
+        keys,
+        lives,
+        readings,
+        s,
+        first,
+        report.at,
+        report.count,
+    )
+}
+
 // A typed record posted to lent columns. For the next layer: the columns keep the rules, and a step handed out the record.
 pub fn post_record(
     count: &mut usize,
@@ -167,43 +297,7 @@ pub fn post_record(
     if !is_statistics(record) {
         return refusal::NOT_STATISTICS;
     }
-    let report = statistics_of(record);
-    let first = first_key(report);
-    if !has_room(
-        *count,
-        keys,
-        lives,
-        readings,
-        s,
-        first,
-        report.at,
-        report.count,
-    ) {
-        return refusal::NO_ROOM;
-    }
-    if some_passes(
-        *count,
-        keys,
-        lives,
-        readings,
-        s,
-        first,
-        report.at,
-        report.count,
-    ) {
-        return refusal::LIFE_PASSES;
-    }
-    add_all(
-        count,
-        keys,
-        lives,
-        readings,
-        s,
-        first,
-        report.at,
-        report.count,
-    );
-    refusal::ACCEPTED
+    post_report(count, keys, lives, readings, s, statistics_of(record))
 }
 
 // Record k of a block, from 0: k steps from the first, and one that hands it out.

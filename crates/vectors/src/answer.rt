@@ -11,7 +11,6 @@ use crate::case::State;
 use crate::case::is_numbered;
 use crate::case::next;
 use crate::case::unknown;
-use crate::cells::say_record;
 use crate::feeds::say_feed;
 use crate::ledgers::say_loading;
 use crate::ledgers::say_posting;
@@ -20,6 +19,7 @@ use blocks::cursor::Cursor;
 use blocks::cursor::Found;
 use blocks::cursor::Step;
 use blocks::walk::Reading;
+use doors::cells::record_cells;
 use text::emit;
 use text::more;
 use text::number;
@@ -47,7 +47,7 @@ fn say_step(text: &mut [u8], held: usize, answer: Step) -> usize {
             let at = number(text, held, 0);
             let values = [0, behind.at as u64];
             let end = more(text, at, &values);
-            say_record(text, end, record)
+            more(text, end, &record_cells(record))
         }
         Step::Refused(n, offset) => {
             let at = number(text, held, n as u64);

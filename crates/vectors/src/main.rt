@@ -3,7 +3,6 @@
 // `feed PIECE OCTETS`.
 mod answer;
 mod case;
-mod cells;
 mod feeds;
 mod ledgers;
 mod store;

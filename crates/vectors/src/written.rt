@@ -3,11 +3,12 @@ use crate::case::Case;
 use crate::case::REWRITE;
 use crate::case::STORE;
 use crate::case::unknown;
-use crate::cells::fit;
-use crate::cells::record_of;
 use crate::ledgers::ledger_of;
+use doors::cells::cells_refusal;
+use doors::cells::record_of;
 use ledger::page::store;
 use octets::output::Written;
+use octets::refusal;
 use text::emit;
 use text::hex;
 use text::more;
@@ -57,6 +58,15 @@ fn say_written(text: &mut [u8], held: usize, out: &[u8], answer: Written) -> usi
     }
 }
 
+// A record given as cells, which may be too wide for its places.
+fn write_cells(cells: [u64; 36], source: &[u8], out: &mut [u8]) -> Written {
+    let n = cells_refusal(&cells);
+    if n != refusal::ACCEPTED {
+        return Written::Refused(n);
+    }
+    write(record_of(&cells), source, out)
+}
+
 // The case's operation on a lent output.
 fn written(s: &[u8], out: &mut [u8], case: Case) -> Written {
     let cells = case.cells;
@@ -66,7 +76,7 @@ fn written(s: &[u8], out: &mut [u8], case: Case) -> Written {
     if case.operation == STORE {
         return store(ledger_of(s), out);
     }
-    write(record_of(cells), s, out)
+    write_cells(cells, s, out)
 }
 
 // The answer to a case whose room an output has.
@@ -75,14 +85,10 @@ fn say_room(s: &[u8], out: &mut [u8], text: &mut [u8], held: usize, case: Case) 
     say_written(text, held, out, answer)
 }
 
-// The answer to a case of writing, its first number the room; too much of it, or a cell that does not fit, is no case.
+// The answer to a case of writing, its first number the room; too much of it is no case.
 pub(crate) fn say_output(s: &[u8], text: &mut [u8], held: usize, case: Case) -> usize {
     let room = case.first;
-    let cells = case.cells;
     if MOST < room {
-        return unknown(text, held);
-    }
-    if !fit(cells) {
         return unknown(text, held);
     }
     let mut out = [LENT; MOST];

@@ -1,20 +1,19 @@
 -- The specification of a typed record, written: seven marks to a number, up to the last that marks something. Assumes nothing.
 use mathlib.Core.Path.{_≡_, refl, sym, ap, _∙_}
 use mathlib.Core.Bool.{Bool, true, false, _&&_}
-use mathlib.Core.List.{List, [], _∷_, _++_, append-assoc}
+use mathlib.Core.List.{List, [], _∷_, _++_}
 use Prim.Native.Nat.{ℕ, zero, suc, _+_, _-_, _*_, _/_, _%_, _^_, _≤_, _<_}
 use native.Mathlib.Nat.{zero-add, suc-add, pow-suc, div-div-eq-div-mul, div-lt-iff-lt-mul, zero-lt-suc, lt-of-lt-of-le, pow-le-pow-right}
-use native.Mathlib.Numerals.{add-one}
 use native.Mathlib.Omega.{arith}
 use borrow.Author.Tests.{ltb-true, ltb-false, lt-ltb, eqb-true, eqb-false, eq-eqb, ne-eqb}
 use lib.Dec.{ltb, eqb}
 use lib.ListN.{length, getD, set, replicate}
-use lib.Seq.{set-split}
 use Rattle.octets.specs.Choice.{pick, odd}
 use Rattle.octets.specs.Numbers.{laid}
 use Rattle.octets.specs.Refusals.{spareMarked, noneMarked}
-use Rattle.octets.proofs.Laying.{laid-laid}
+use Rattle.octets.proofs.Laying.{laid-one, laid-laid}
 use Rattle.octets.proofs.Cases.{neither}
+use Rattle.layouts.specs.Layouts.{isUnused}
 use Rattle.layouts.specs.Tables.{layout}
 use Rattle.layouts.specs.Categories.{Category, known, category}
 use Rattle.layouts.specs.declared.form.Form.{Form}
@@ -22,7 +21,7 @@ use Rattle.items.specs.Typed.{traceOf}
 use Rattle.blocks.specs.Specification.{zeros, putMarks, flags}
 use Rattle.blocks.specs.Presence.{Row, rowsOf, meets}
 use Rattle.blocks.specs.Marks.{flagsOf}
-use Rattle.blocks.specs.Records.{formats, isUnused, marksSpare, layoutOf, marksRefusal, typeOf, present, putRec}
+use Rattle.blocks.specs.Records.{formats, marksSpare, layoutOf, marksRefusal, typeOf, present, putRec}
 use Rattle.blocks.specs.Meaning.{itemIn, sevens, valuesOf, recOf}
 use Rattle.blocks.specs.declared.record.Record.{Record}
 use Rattle.blocks.proofs.MeaningLaws.{two, low-bit}
@@ -170,10 +169,6 @@ octet-then n m h l =
     puts-then (suc n) m h l ∙ rw (turn-low m, puts-same n (suc n) (m / 128) small more)
 
 -- an octet put, and the others behind it
-laid-one : (l : List ℕ) (p x : ℕ) → p < length l → laid l p (x ∷ []) ≡ set l p x
-unfolding laid
-laid-one l p x h = rw (set-split l p x h, add-one, append-assoc)
-
 pub put-last : (l : List ℕ) (p m x : ℕ) → x ≡ specificationOctet (m % 128) (ltb 0 (m / 128)) → m / 128 ≡ 0 → p < length l
     → laid l p (putMarks (sevens 4 m)) ≡ set l p x
 put-last l p m x e z h = rw (octet-last 3 m (omega arith), laid-one l p (specificationOctet (m % 128) false) h, e, z)

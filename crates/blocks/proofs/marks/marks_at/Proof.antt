@@ -14,13 +14,14 @@ use Rattle.blocks.proofs.marks.marks_at.Tie as tie
 
 -- one octet more, in front
 module _ (n i m r : ℕ) (some : 0 < i) (within : i ≤ n) where
-  more : (s : List ℕ) (at x : ℕ) → m ≡ marksOf (flags (groupsOf (n - i) s (at + i))) → x ≡ getD s (at + (i - 1)) 0
-      → r ≡ marksOf (flags (x / 2 ∷ [])) → m * 128 + r ≡ marksOf (flags (groupsOf (n - (i - 1)) s (at + (i - 1))))
+  more : (s : List ℕ) (at : ℕ) → m ≡ marksOf (flags (groupsOf (n - i) s (at + i)))
+      → r ≡ marksOf (flags (getD s (at + (i - 1)) 0 / 2 ∷ []))
+      → m * 128 + r ≡ marksOf (flags (groupsOf (n - (i - 1)) s (at + (i - 1))))
   unfolding groupsOf
-  more s at x h e f =
+  more s at h f =
       let one : n - (i - 1) ≡ suc (n - i) = omega arith in
       let next : at + (i - 1) + 1 ≡ at + i = omega arith in
-      rw (one, next, marks-cons (getD s (at + (i - 1)) 0 / 2) (groupsOf (n - i) s (at + i)), ← e, ← f, ← h)
+      rw (one, next, marks-cons (getD s (at + (i - 1)) 0 / 2) (groupsOf (n - i) s (at + i)), ← f, ← h)
 
   more-lt : m < 128 ^ (n - i) → r < 128 → m * 128 + r < 128 ^ (n - (i - 1))
   more-lt h f =
@@ -47,8 +48,11 @@ sub-i c = search needs
 mul-m : tie.Need-mul-m Inv-loop μ-loop
 mul-m c = omega (arith, small _ _ (omega arith) (c .before .loop .inv .2))
 
-octet-requires : tie.Need-octet-requires Inv-loop μ-loop
-octet-requires c κs = search needs
+add-octet-marks : tie.Need-add-octet-marks Inv-loop μ-loop
+add-octet-marks c = search needs
+
+shared-slice-read-octet-marks : tie.Need-shared-slice-read-octet-marks Inv-loop μ-loop
+shared-slice-read-octet-marks c = search needs
 
 octet-marks-requires : tie.Need-octet-marks-requires Inv-loop μ-loop
 octet-marks-requires c κs = search needs
@@ -65,7 +69,7 @@ loop-again c =
     let l = b .before .loop in
     let a = b .before .before .before .args in (
       omega arith,
-      more _ _ _ _ (b .loop-test .taken) (l .inv .0) (a .s .now) (a .at) _ (l .inv .1) (c .before .octet .ensures .0) (c .octet-marks .ensures .0),
+      more _ _ _ _ (b .loop-test .taken) (l .inv .0) (a .s .now) (a .at) (l .inv .1) (c .octet-marks .ensures .0),
       more-lt _ _ _ _ (b .loop-test .taken) (l .inv .0) (l .inv .2) (c .octet-marks .ensures .1),
     )
 
@@ -84,7 +88,8 @@ marks-at-spec =
     loop-holds
     sub-i
     mul-m
-    octet-requires
+    add-octet-marks
+    shared-slice-read-octet-marks
     octet-marks-requires
     add-m
     loop-less

@@ -1,11 +1,10 @@
 -- `post_block`: the loop's invariant is that the records from the offset on are still to be posted, the measure what is left of LEN.
 -- Assumes nothing.
-use mathlib.Core.Path.{sym, _∙_}
+use mathlib.Core.Path.{_∙_}
 use Prim.Native.Nat.{_-_}
 use native.Mathlib.Omega.{arith}
 use borrow.Author.Needs.{needs}
 use Rattle.ledger.specs.Ledgers.{columns}
-use Rattle.blocks.proofs.TakenLaws.{accepted-inside}
 use Rattle.feed.proofs.BlockReports.{head}
 use Rattle.feed.proofs.BlockSteps as steps
 use Rattle.feed.proofs.block.post_block.Statement.{statement}
@@ -13,7 +12,7 @@ use Rattle.feed.proofs.block.post_block.Tie as tie
 
 abbrev Inv-loop : tie.InvT-loop
 Inv-loop count₀ keys₀ lives₀ readings₀ s len number after₀ at₀ count keys lives readings after at =
-    steps.Posting s (columns count₀ keys₀ lives₀ readings₀) after₀ (columns count keys lives readings) after at
+    steps.Posting s len (columns count₀ keys₀ lives₀ readings₀) after₀ (columns count keys lives readings) after at
 
 abbrev μ-loop : tie.MeasureT-loop
 μ-loop count₀ keys₀ lives₀ readings₀ s len number after₀ at₀ count keys lives readings after at = len - at
@@ -24,40 +23,65 @@ shared-slice-read-number c =
     let g = head _ _ _ (λ j. c .shared-slice-known2 .given j .fits) (c .before .before .pre .1 .1) in
     omega (arith, g .least, g .fits)
 
--- the header is good, and the offset below LEN
-take-requires : tie.Need-take-requires Inv-loop μ-loop
-take-requires c κs =
-    let k = c .before .before in
-    accepted-inside _ _ _ (λ j. k .shared-slice-known2 .given j .fits) (k .before .before .pre .1 .1) _ (c .loop-test .taken)
+-- another category
+returns : tie.Need-returns Inv-loop μ-loop
+returns c =
+    let i = c .before in
+    let k = i .before in
+    let z = k .before .before in
+    let e = steps.other-category _ _ _ (λ j. k .shared-slice-known2 .given j .fits) (z .pre .1 .1) (i .if1 .taken) _ (z .args .totals)
+    (z .pre .0) (omega (arith, z .good)) in
+    (e .0, c .with-accepted .ensures ∙ e .1)
 
--- no record is taken
+loop-holds : tie.Need-loop-holds Inv-loop μ-loop
+loop-holds c =
+    let k = c .before in
+    steps.posting-none _ _ _ (λ j. k .shared-slice-known2 .given j .fits) (k .before .before .pre .1 .1) _ _ (k .before .before .pre .0) (omega arith)
+
+-- the offset is below LEN, and the block lies in the octets
+see-requires : tie.Need-see-requires Inv-loop μ-loop
+see-requires c κs =
+    let k = c .before .before .before in
+    (c .loop-test .taken, head _ _ _ (λ j. k .shared-slice-known2 .given j .fits) (k .before .before .pre .1 .1) .fits)
+
+-- another record
+loop-less : tie.Need-loop-less Inv-loop μ-loop
+loop-less c =
+    let w = c .before in
+    let t = w .before .before in
+    let l = t .before .before in
+    let k = l .before .before in
+    let f = steps.other-forward _ _ _ (λ j. k .shared-slice-known2 .given j .fits) (k .before .before .pre .1 .1) _ _ _ _ _ (l .loop .inv)
+    (t .before .loop-test .taken) (l .before .if1 .left) _ (t .see .ensures) _ (w .seen .given .1) in
+    omega (arith, t .before .loop-test .taken)
+
 loop-again : tie.Need-loop-again Inv-loop μ-loop
 loop-again c =
-    let t = c .before .before in
+    let w = c .before in
+    let t = w .before .before in
     let l = t .before .before in
-    let k = l .before in
-    steps.posting-stopped _ _ _ (λ j. k .shared-slice-known2 .given j .fits) (k .before .before .pre .1 .1) _ _ _ _ _ (l .loop .inv)
-    (t .before .loop-test .taken) _ _ (sym (t .take .ensures) ∙ c .enum-told .given .1)
+    let k = l .before .before in
+    steps.posting-other _ _ _ (λ j. k .shared-slice-known2 .given j .fits) (k .before .before .pre .1 .1) _ _ _ _ _ (l .loop .inv)
+    (t .before .loop-test .taken) (l .before .if1 .left) _ (t .see .ensures) _ (w .seen .given .1)
 
--- the record that is taken may be posted
-post-record-requires : tie.Need-post-record-requires Inv-loop μ-loop
-post-record-requires c κs =
+-- a statistics report
+post-report-requires : tie.Need-post-report-requires Inv-loop μ-loop
+post-report-requires c κs =
     let w = c .before .before .before .before .before in
     let t = w .before .before in
     let l = t .before .before in
-    let k = l .before in
-    steps.posting-asks _ _ _ (λ j. k .shared-slice-known2 .given j .fits) (k .before .before .pre .1 .1) _ _ _ _ _ (l .loop .inv)
-    (t .before .loop-test .taken) _ _ (sym (t .take .ensures) ∙ w .step .given .1)
+    let k = l .before .before in
+    steps.report-asks _ _ _ (λ j. k .shared-slice-known2 .given j .fits) (k .before .before .pre .1 .1) _ _ _ _ _ (l .loop .inv)
+    (t .before .loop-test .taken) (l .before .if1 .left) _ (t .see .ensures) _ _ (w .seen2 .given .1)
 
--- a record is posted
 loop-less-2 : tie.Need-loop-less-2 Inv-loop μ-loop
 loop-less-2 c =
     let w = c .before .before .before .before .before .before .before in
     let t = w .before .before in
     let l = t .before .before in
-    let k = l .before in
-    let f = steps.posting-forward _ _ _ (λ j. k .shared-slice-known2 .given j .fits) (k .before .before .pre .1 .1) _ _ _ _ _ (l .loop .inv)
-    (t .before .loop-test .taken) _ _ (sym (t .take .ensures) ∙ w .step .given .1) in
+    let k = l .before .before in
+    let f = steps.report-forward _ _ _ (λ j. k .shared-slice-known2 .given j .fits) (k .before .before .pre .1 .1) _ _ _ _ _ (l .loop .inv)
+    (t .before .loop-test .taken) (l .before .if1 .left) _ (t .see .ensures) _ _ (w .seen2 .given .1) in
     omega (arith, t .before .loop-test .taken)
 
 loop-again-2 : tie.Need-loop-again-2 Inv-loop μ-loop
@@ -65,33 +89,36 @@ loop-again-2 c =
     let w = c .before .before .before .before .before .before .before in
     let t = w .before .before in
     let l = t .before .before in
-    let k = l .before in
-    steps.posting-more _ _ _ (λ j. k .shared-slice-known2 .given j .fits) (k .before .before .pre .1 .1) _ _ _ _ _ (l .loop .inv)
-    (t .before .loop-test .taken) _ _ (sym (t .take .ensures) ∙ w .step .given .1) _ _ (c .before .post-record .ensures) _ (c .counted .ensures)
+    let k = l .before .before in
+    steps.posting-report _ _ _ (λ j. k .shared-slice-known2 .given j .fits) (k .before .before .pre .1 .1) _ _ _ _ _ (l .loop .inv)
+    (t .before .loop-test .taken) (l .before .if1 .left) _ (t .see .ensures) _ _ (w .seen2 .given .1) _ _ (c .before .post-report .ensures)
+    _ (c .counted .ensures)
 
 -- no record is left
-returns : tie.Need-returns Inv-loop μ-loop
-returns c =
+returns-2 : tie.Need-returns-2 Inv-loop μ-loop
+returns-2 c =
     let l = c .before .before in
-    let k = l .before in
+    let k = l .before .before in
     let e = steps.posting-end _ _ _ (λ j. k .shared-slice-known2 .given j .fits) (k .before .before .pre .1 .1) _ _ _ _ _ (l .loop .inv)
     (c .before .loop-test .left) in
-    (e .0, c .with-accepted .ensures ∙ e .1)
+    (e .0, c .with-accepted2 .ensures ∙ e .1)
 
 pub post-block-spec : {M : Type 1} → statement M
 post-block-spec =
     tie.close
     (tie.spec Inv-loop μ-loop
     shared-slice-read-number
-    (λ c. steps.posting-none _ _ _ (c .before .before .pre .0) (omega arith))
-    take-requires
+    (λ c κs. search needs)
+    returns
+    loop-holds
+    see-requires
     (λ c. search needs)
-    (λ c. search needs)
+    loop-less
     loop-again
     (λ c. search needs)
-    post-record-requires
+    post-report-requires
     (λ c κs. search needs)
     loop-less-2
     loop-again-2
     (λ c κs. search needs)
-    returns)
+    returns-2)

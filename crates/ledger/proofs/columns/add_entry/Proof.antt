@@ -10,25 +10,22 @@ use Rattle.ledger.proofs.columns.add_entry.Statement.{statement}
 use Rattle.ledger.proofs.columns.add_entry.Tie as tie
 
 -- the key's row: the life count does not pass
-add-lives : tie.Need-add-lives
+add-at-requires : tie.Need-add-at-requires
 unfolding addUp
-add-lives c =
-    let f = c .before .before .before .before .before .before in
-    let z = f .before .before .before in
-    omega (
-      arith,
+add-at-requires c κs =
+    let f = c .before .before .before .before .before in
+    let z = f .before .before .before in (
+      omega (arith, z .pre .0 .few),
       row-fits addUp adding-key _ (z .pre .0) _ _ (f .find .ensures) (omega arith) (omega arith) (z .pre .1 0 .1),
-      c .added .ensures,
     )
 
 -- it changes
 returns : tie.Need-returns
 unfolding addUp
 returns c time =
-    let f = c .before .before .before .before .before .before .before in
+    let f = c .before .before .before .before .before .before in
     let z = f .before .before .before in
-    row-adds addUp adding-key _ (z .pre .0) _ _ (f .find .ensures) (omega arith) (omega arith) _ _
-    (omega (arith, c .before .added .ensures)) (c .read-after .ensures)
+    row-adds addUp adding-key _ (z .pre .0) _ _ (f .find .ensures) (omega arith) (omega arith) _ _ (c .add-at .ensures)
 
 -- no row of the key: there is room for one
 open-requires : tie.Need-open-requires
@@ -51,8 +48,8 @@ returns-2 c time =
     let j = c .before .before .before .before .before .before in
     let z = j .before .before .before .before in
     new-adds addUp adding-key _ (z .pre .0) _ _ (j .before .find .ensures) (λ h q. ⊎-elim (λ w. w .2 .left q) (λ w. omega arith) (j .if1 .came))
-    (z .pre .1 time .0) _ _ (omega (arith, c .before .before .before .before .before .added2 .ensures))
-    (c .before .before .before .before .read-after2 .ensures) _ _ _ (c .«open» .ensures)
+    (z .pre .1 time .0) _ _ (omega (arith, c .before .before .before .before .before .added .ensures))
+    (c .before .before .before .before .read-after .ensures) _ _ _ (c .«open» .ensures)
 
 pub add-entry-spec : {M : Type 1} → statement M
 add-entry-spec =
@@ -61,18 +58,7 @@ add-entry-spec =
     (λ c κs. (c .before .before .pre .0 .few, kept-rising _ (c .before .before .pre .0)))
     (λ c. search needs)
     (λ c. search needs)
-    (λ c. search needs)
-    (λ c. search needs)
-    (λ c. search needs)
-    (λ c. search needs)
-    (λ c κs. search needs)
-    (λ c. search needs)
-    add-lives
-    (λ c. search needs)
-    (λ c. search needs)
-    (λ c κs. search needs)
-    (λ c. search needs)
-    (λ c. search needs)
+    add-at-requires
     returns
     (λ c κs. search needs)
     (λ c. search needs)

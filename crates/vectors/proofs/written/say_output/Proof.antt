@@ -15,18 +15,6 @@ same-length c = search needs
 returns : tie.Need-returns
 returns c = search needs
 
-fit-requires : tie.Need-fit-requires
-fit-requires c κs = search needs
-
-unknown-requires-2 : tie.Need-unknown-requires-2
-unknown-requires-2 c κs = search needs
-
-same-length-2 : tie.Need-same-length-2
-same-length-2 c = search needs
-
-returns-2 : tie.Need-returns-2
-returns-2 c = search needs
-
 array-borrow-prefix-out : tie.Need-array-borrow-prefix-out
 array-borrow-prefix-out c = search needs
 
@@ -36,11 +24,11 @@ slice-aggregate-say-room c = sym (length-take-le _ _ (omega arith))
 say-room-requires : tie.Need-say-room-requires
 say-room-requires c κs = search needs
 
-same-length-3 : tie.Need-same-length-3
-same-length-3 c = search needs
+same-length-2 : tie.Need-same-length-2
+same-length-2 c = search needs
 
-returns-3 : tie.Need-returns-3
-returns-3 c = search needs
+returns-2 : tie.Need-returns-2
+returns-2 c = search needs
 
 pub say-output-spec : {M : Type 1} → statement M
 say-output-spec =
@@ -49,12 +37,8 @@ say-output-spec =
     unknown-requires
     same-length
     returns
-    fit-requires
-    unknown-requires-2
-    same-length-2
-    returns-2
     array-borrow-prefix-out
     slice-aggregate-say-room
     say-room-requires
-    same-length-3
-    returns-3)
+    same-length-2
+    returns-2)

@@ -1,0 +1,38 @@
+-- `items_23`: the end goes from field to field. Assumes nothing.
+use mathlib.Core.Path.{refl}
+use native.Mathlib.Omega.{arith}
+use borrow.Author.Needs.{needs}
+use Rattle.layouts.specs.Categories.{cat23}
+use Rattle.blocks.proofs.WalkSteps as steps
+use Rattle.blocks.proofs.walk.items_23.Statement.{statement}
+use Rattle.blocks.proofs.walk.items_23.Tie as tie
+
+pub items-23-spec : {M : Type 1} → statement M
+items-23-spec =
+    tie.close
+    (tie.spec
+    (λ c κs. (omega arith, omega arith, omega arith, refl, steps.at-within _ _ (c .before .pre .0)))
+    (λ c κs. search needs)
+    (λ c κs. search needs)
+    (λ c κs. search needs)
+    (λ c κs. search needs)
+    (λ c κs. search needs)
+    (λ c κs. search needs)
+    (λ c κs. search needs)
+    (λ c κs. search needs)
+    (λ c κs. (c .before .before .before .before .before .before .before .before .before .before .pre .1, omega arith, omega arith, refl, c .next-item9 .ensures .1))
+    (λ c κs. (c .before .before .before .before .before .before .before .before .before .before .before .pre .1, omega arith, omega arith, refl, c .next-item10 .ensures .1))
+    (λ c. steps.items-passed _ _ cat23 _ _ (omega arith) (c .before .before .before .before .before .before .before .before .before .before .before .before .pre .2) _
+    (rw (
+      c .next-item11 .ensures .0,
+      c .before .next-item10 .ensures .0,
+      c .before .before .next-item9 .ensures .0,
+      c .before .before .before .next-item8 .ensures .0,
+      c .before .before .before .before .next-item7 .ensures .0,
+      c .before .before .before .before .before .next-item6 .ensures .0,
+      c .before .before .before .before .before .before .next-item5 .ensures .0,
+      c .before .before .before .before .before .before .before .next-item4 .ensures .0,
+      c .before .before .before .before .before .before .before .before .next-item3 .ensures .0,
+      c .before .before .before .before .before .before .before .before .before .next-item2 .ensures .0,
+      c .before .before .before .before .before .before .before .before .before .before .next-item .ensures .0,
+    ))))

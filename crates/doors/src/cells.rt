@@ -1,0 +1,305 @@
+// A record as 64-bit cells, in the order of include/wear.h.
+ghost use mathlib.Core.Path.{_≡_};
+ghost use Prim.Native.Nat.{_+_, _≤_, _<_, _%_, _^_};
+ghost use lib.ListN.{length, getD};
+ghost use Rattle.layouts.specs.Categories.{category};
+ghost use Rattle.blocks.specs.Marks.{flagsOf};
+ghost use Rattle.doors.specs.Cells.{cellCount, recordCells, recordOf, octetFits, extensionFits, itemFits, allFit, cellsRefusal};
+use blocks::marks::marks_refusal;
+use blocks::record::Record;
+use items::typed::Configuration;
+use items::typed::HalfSeconds;
+use items::typed::Place;
+use items::typed::Sdps;
+use items::typed::Seconds;
+use items::typed::Service;
+use items::typed::Source;
+use items::typed::Station;
+use items::typed::TimeOfDay;
+use layouts::category::field_of;
+use layouts::category::is_known;
+use layouts::form::Form;
+use octets::refusal;
+
+// How many cells a record has.
+pub const CELLS: usize = 36;
+
+// The cells of a record.
+pub fn record_cells(record: Record) -> [u64; 36]
+    ensures { λ r. ⌜ r ≡ recordCells «record» ⌝ }
+{
+    [
+        record.category as u64,
+        record.marks as u64,
+        record.source.sac as u64,
+        record.source.sic as u64,
+        record.message_type as u64,
+        record.identification as u64,
+        record.service.sid as u64,
+        record.service.styp as u64,
+        record.time.0 as u64,
+        record.batch as u64,
+        record.sdps.nogo as u64,
+        record.sdps.ovl as u64,
+        record.sdps.tsv as u64,
+        record.sdps.pss as u64,
+        record.report as u64,
+        record.station.nogo as u64,
+        record.station.odp as u64,
+        record.station.oxt as u64,
+        record.station.msc as u64,
+        record.station.tsv as u64,
+        record.station.spo as u64,
+        record.station.rn as u64,
+        record.station.extended as u64,
+        record.station.gssp.0 as u64,
+        record.configuration.rp.0 as u64,
+        record.configuration.sc as u64,
+        record.configuration.extended as u64,
+        record.configuration.ssrp.0 as u64,
+        record.range as u64,
+        record.status as u64,
+        record.entries.at as u64,
+        record.entries.count as u64,
+        record.expansion.at as u64,
+        record.expansion.count as u64,
+        record.purpose.at as u64,
+        record.purpose.count as u64,
+    ]
+}
+
+// What a place of 8 bits, and one of 32, has of its cell.
+fn octet(cells: &[u64], i: usize) -> u8
+    requires { ⌜ (cellCount ≤ length (now cells)) × (i < cellCount) ⌝ }
+    ensures { λ r. ⌜ r ≡ getD (now (cells .entry)) i 0 % 2 ^ 8 ⌝ }
+{
+    (cells[i] % 0x100) as u8
+}
+
+fn long(cells: &[u64], i: usize) -> u32
+    requires { ⌜ (cellCount ≤ length (now cells)) × (i < cellCount) ⌝ }
+    ensures { λ r. ⌜ r ≡ getD (now (cells .entry)) i 0 % 2 ^ 32 ⌝ }
+{
+    (cells[i] % 0x1_0000_0000) as u32
+}
+
+// Where entries or content lie, by the cell of the offset and the next.
+fn place_of(cells: &[u64], i: usize) -> Place
+    requires { ⌜ (cellCount ≤ length (now cells)) × (i + 1 < cellCount) ⌝ }
+    ensures { λ r. ⌜ r ≡ record { at = getD (now (cells .entry)) i 0; count = getD (now (cells .entry)) (i + 1) 0 } ⌝ }
+{
+    Place {
+        at: cells[i] as usize,
+        count: cells[i + 1] as usize,
+    }
+}
+
+fn source_of(cells: &[u64]) -> Source
+    requires { ⌜ cellCount ≤ length (now cells) ⌝ }
+    ensures { λ r. ⌜ r ≡ recordOf (now (cells .entry)) .source ⌝ }
+{
+    Source {
+        sac: octet(cells, 2),
+        sic: octet(cells, 3),
+    }
+}
+
+fn service_of(cells: &[u64]) -> Service
+    requires { ⌜ cellCount ≤ length (now cells) ⌝ }
+    ensures { λ r. ⌜ r ≡ recordOf (now (cells .entry)) .service ⌝ }
+{
+    Service {
+        sid: octet(cells, 6),
+        styp: octet(cells, 7),
+    }
+}
+
+fn sdps_of(cells: &[u64]) -> Sdps
+    requires { ⌜ cellCount ≤ length (now cells) ⌝ }
+    ensures { λ r. ⌜ r ≡ recordOf (now (cells .entry)) .sdps ⌝ }
+{
+    Sdps {
+        nogo: octet(cells, 10),
+        ovl: octet(cells, 11),
+        tsv: octet(cells, 12),
+        pss: octet(cells, 13),
+    }
+}
+
+fn station_of(cells: &[u64]) -> Station
+    requires { ⌜ cellCount ≤ length (now cells) ⌝ }
+    ensures { λ r. ⌜ r ≡ recordOf (now (cells .entry)) .station ⌝ }
+{
+    Station {
+        nogo: octet(cells, 15),
+        odp: octet(cells, 16),
+        oxt: octet(cells, 17),
+        msc: octet(cells, 18),
+        tsv: octet(cells, 19),
+        spo: octet(cells, 20),
+        rn: octet(cells, 21),
+        extended: octet(cells, 22),
+        gssp: Seconds(octet(cells, 23)),
+    }
+}
+
+fn configuration_of(cells: &[u64]) -> Configuration
+    requires { ⌜ cellCount ≤ length (now cells) ⌝ }
+    ensures { λ r. ⌜ r ≡ recordOf (now (cells .entry)) .configuration ⌝ }
+{
+    Configuration {
+        rp: HalfSeconds(octet(cells, 24)),
+        sc: octet(cells, 25),
+        extended: octet(cells, 26),
+        ssrp: Seconds(octet(cells, 27)),
+    }
+}
+
+// The record of given cells, each cut to its place. Only for callers that have seen so many cells.
+pub fn record_of(cells: &[u64]) -> Record
+    requires { ⌜ cellCount ≤ length (now cells) ⌝ }
+    ensures { λ r. ⌜ r ≡ recordOf (now (cells .entry)) ⌝ }
+{
+    Record {
+        category: octet(cells, 0),
+        marks: long(cells, 1),
+        source: source_of(cells),
+        message_type: octet(cells, 4),
+        identification: octet(cells, 5),
+        service: service_of(cells),
+        time: TimeOfDay(long(cells, 8)),
+        batch: octet(cells, 9),
+        sdps: sdps_of(cells),
+        report: octet(cells, 14),
+        station: station_of(cells),
+        configuration: configuration_of(cells),
+        range: octet(cells, 28),
+        status: octet(cells, 29),
+        entries: place_of(cells, 30),
+        expansion: place_of(cells, 32),
+        purpose: place_of(cells, 34),
+    }
+}
+
+// Whether a cell fits a place of 8 bits.
+fn octet_fits(cells: &[u64], i: usize) -> bool
+    requires { ⌜ (cellCount ≤ length (now cells)) × (i < cellCount) ⌝ }
+    ensures { λ r. ⌜ r ≡ octetFits (now (cells .entry)) i ⌝ }
+{
+    cells[i] < 0x100
+}
+
+// An extension: whether it is there, and its value where it is.
+fn extension_fits(cells: &[u64], e: usize, i: usize) -> bool
+    requires { ⌜ (cellCount ≤ length (now cells)) × (e < cellCount) × (i < cellCount) ⌝ }
+    ensures { λ r. ⌜ r ≡ extensionFits (now (cells .entry)) e i ⌝ }
+{
+    if !octet_fits(cells, e) {
+        return false;
+    }
+    if cells[e] == 0 {
+        return true;
+    }
+    octet_fits(cells, i)
+}
+
+fn sdps_fits(cells: &[u64]) -> bool
+    requires { ⌜ cellCount ≤ length (now cells) ⌝ }
+    ensures { λ r. ⌜ r ≡ itemFits (now (cells .entry)) Form.Sdps ⌝ }
+{
+    octet_fits(cells, 10) & octet_fits(cells, 11) & octet_fits(cells, 12) & octet_fits(cells, 13)
+}
+
+fn station_fits(cells: &[u64]) -> bool
+    requires { ⌜ cellCount ≤ length (now cells) ⌝ }
+    ensures { λ r. ⌜ r ≡ itemFits (now (cells .entry)) Form.Station ⌝ }
+{
+    octet_fits(cells, 15)
+        & octet_fits(cells, 16)
+        & octet_fits(cells, 17)
+        & octet_fits(cells, 18)
+        & octet_fits(cells, 19)
+        & octet_fits(cells, 20)
+        & octet_fits(cells, 21)
+        & extension_fits(cells, 22, 23)
+}
+
+fn configuration_fits(cells: &[u64]) -> bool
+    requires { ⌜ cellCount ≤ length (now cells) ⌝ }
+    ensures { λ r. ⌜ r ≡ itemFits (now (cells .entry)) Form.Configuration ⌝ }
+{
+    octet_fits(cells, 24) & octet_fits(cells, 25) & extension_fits(cells, 26, 27)
+}
+
+// Whether the cells of an item fit their places.
+fn item_fits(cells: &[u64], form: Form) -> bool
+    requires { ⌜ cellCount ≤ length (now cells) ⌝ }
+    ensures { λ r. ⌜ r ≡ itemFits (now (cells .entry)) form ⌝ }
+{
+    match form {
+        Form::Source => octet_fits(cells, 2) & octet_fits(cells, 3),
+        Form::MessageType => octet_fits(cells, 4),
+        Form::Service => octet_fits(cells, 6) & octet_fits(cells, 7),
+        Form::Identification => octet_fits(cells, 5),
+        Form::Time => cells[8] < 0x1_0000_0000,
+        Form::Batch => octet_fits(cells, 9),
+        Form::Sdps => sdps_fits(cells),
+        Form::Report => octet_fits(cells, 14),
+        Form::Station => station_fits(cells),
+        Form::Configuration => configuration_fits(cells),
+        Form::Range => octet_fits(cells, 28),
+        Form::Status => octet_fits(cells, 29),
+        Form::Spare | Form::Statistics | Form::Versions | Form::Expansion | Form::Purpose => true,
+    }
+}
+
+// Whether the cells of every marked item fit their places.
+fn all_fit(cells: &[u64], number: u8, marks: u32) -> bool
+    requires { ⌜ cellCount ≤ length (now cells) ⌝ }
+    ensures { λ r. ⌜ r ≡ allFit (now (cells .entry)) (flagsOf 32 marks) (category number .fields) ⌝ }
+{
+    let mut left = marks;
+    let mut f: usize = 0;
+    while f < 32 {
+        if left == 0 {
+            return true;
+        }
+        f += 1;
+        if left % 2 == 1 {
+            let field = field_of(number, f);
+            let form = field.0;
+            if !item_fits(cells, form) {
+                return false;
+            }
+        }
+        left = left / 2;
+    }
+    true
+}
+
+// 2, 6 and 5 of the category's cell and the marks', then 11 for a cell of a marked item that does not fit its place. Only for callers that have
+// seen so many cells.
+pub fn cells_refusal(cells: &[u64]) -> u8
+    requires { ⌜ cellCount ≤ length (now cells) ⌝ }
+    ensures { λ r. ⌜ r ≡ cellsRefusal (now (cells .entry)) ⌝ }
+{
+    if 0xFF < cells[0] {
+        return refusal::UNKNOWN_CATEGORY;
+    }
+    let number = octet(cells, 0);
+    if !is_known(number) {
+        return refusal::UNKNOWN_CATEGORY;
+    }
+    if 0xFFFF_FFFF < cells[1] {
+        return refusal::SPARE_MARKED;
+    }
+    let marks = long(cells, 1);
+    let n = marks_refusal(number, marks);
+    if n != refusal::ACCEPTED {
+        return n;
+    }
+    if !all_fit(cells, number, marks) {
+        return refusal::OUT_OF_RANGE;
+    }
+    refusal::ACCEPTED
+}

@@ -1,0 +1,163 @@
+"""The stored cases of tests/vectors/base, and document 01's examples, as lines for the program `compare`. Octets are in hex, '-' for
+none, numbers in decimal; the answer comes last.
+
+read OCTETS            NUMBER OFFSET LEN COUNT
+step OCTETS START      NUMBER OFFSET NEXT and the record's cells
+entry OCTETS START K   NUMBER OFFSET and the entry's three values
+write CELLS SOURCE ROOM   NUMBER OUT
+rewrite OCTETS ROOM       NUMBER OUT
+post PAGE OCTETS K ROOM   NUMBER OUT
+"""
+import json
+import os
+import sys
+
+BASE = os.path.join(os.path.dirname(os.path.abspath(__file__)), '..', 'vectors', 'base')
+CASES = {'read': 400, 'step': 400, 'entry': 400, 'rewrite': 400, 'write': 400, 'post': 120, 'load': 120, 'store': 120}
+ENOUGH = 65540
+
+# The cells of a record in wear.h's order, behind category and marks: an item, and its value's name in the stored cases.
+CELLS = [
+    ('010', 'sac'), ('010', 'sic'), ('000', 'type'), ('65/015', 'service'), ('23/015', 'sid'), ('23/015', 'styp'), ('time', 'time'),
+    ('020', 'batch'), ('040', 'nogo'), ('040', 'ovl'), ('040', 'tsv'), ('040', 'pss'), ('050', 'report'),
+    ('100', 'nogo'), ('100', 'odp'), ('100', 'oxt'), ('100', 'msc'), ('100', 'tsv'), ('100', 'spo'), ('100', 'rn'), ('100', 'ext'),
+    ('100', 'gssp'), ('101', 'rp'), ('101', 'sc'), ('101', 'ext'), ('101', 'ssrp'), ('200', 'range'), ('110', 'stat'),
+    ('entries', 'first'), ('entries', 'n'), ('RE', 'first'), ('RE', 'n'), ('SP', 'first'), ('SP', 'n'),
+]
+
+# The items of the fields from 1 on (document 01, "Block and field specification").
+FIELDS = {
+    23: ['010', '000', '23/015', 'time', '100', '101', '200', '110', 'entries', None, None, None, 'RE', 'SP'],
+    65: ['010', '000', '65/015', 'time', '020', '040', '050', None, None, None, None, None, 'RE', 'SP'],
+    242: ['010', 'time', 'entries', None, None, 'SP', 'RE'],
+}
+
+# Document 01, "Worked examples": the octets of a block, the number, and the count of records.
+EXAMPLES = [
+    ('41000CF40102010700008068', 0, 1), ('41000CF4010201070000806B', 0, 1), ('41000DF5000102010700008068', 0, 1),
+    ('41000CF401020107A8C00068', 11, 0), ('41000CF401020107A8BFFF68', 0, 1), ('41000BF001020207000080', 10, 0),
+    ('41000CF80102020700008003', 0, 1), ('F2000DE0010200000001170102', 0, 1), ('F2000DE0010200000001170164', 11, 0),
+    ('F2000AE0010200000000', 8, 0), ('F2000AE1010200000000', 4, 0), ('170013F1400102031200008001040000000064', 0, 1),
+    ('', 1, 0), ('30000400', 2, 0), ('410003', 3, 0), ('4100050180', 5, 0), ('4100050100', 6, 0), ('4100050101', 4, 0),
+    ('41000401', 7, 0),
+]
+OF_A_RECORD = range(4, 12)
+
+# The example of `wear`: P8 with REF and count of its entry, posted one after the other, and the page after each.
+FRESH = '0000000800080008'
+P8 = '170013F140010203120000800104'
+POSTED = [
+    ('0000000064', '00010008000C001801021204000000000000006400000064'),
+    ('0000000096', '00010008000C001801021204000000000000009600000096'),
+    ('000000001E', '00010008000C00180102120400000000000000B40000001E'),
+    ('8000000005', '00010008000C00180102120400000000000000B90000001E'),
+]
+
+
+def line(*words):
+    return ' '.join(str(word) or '-' for word in words)
+
+
+def room_of(case):
+    return ENOUGH if case['room'] is None else case['room']
+
+
+def cells_of(record):
+    """All cells of a record, zero where it has nothing; None where item 110 has an extension. A category that is not read has no
+    values here: its answer is 2, whatever they are."""
+    values = {}
+    for field, named in record['fields'].items():
+        items = FIELDS.get(record['cat'], [])
+        for name, value in named.items() if int(field) <= len(items) else ():
+            values[items[int(field) - 1], name] = value
+    if values.pop(('110', 'ext'), 0):
+        return None
+    unknown = set(values) - set(CELLS)
+    if unknown:
+        sys.exit('vectors.py: no cell for %s' % unknown)
+    return [record['cat'], sum(1 << int(field) - 1 for field in record['fields'])] + [values.get(cell, 0) for cell in CELLS]
+
+
+def page_of(ledger):
+    """A ledger's page, or None where a page cannot say it: over 256 rows, or something in a place past the rows. A page can say
+    rows that do not rise, or a reading above its life count."""
+    count, places = ledger['count'], [place[:6] for place in ledger['places']]
+    if count > 256 or any(any(place) for place in places[count:]):
+        return None
+    places = (places + [[0] * 6] * count)[:count]
+    head = '%04X%04X%04X%04X' % (count, 8, 8 + 4 * count, 8 + 16 * count)
+    keys = ['%02X%02X%02X%02X' % tuple(place[:4]) for place in places]
+    return head + ''.join(keys + ['%016X%08X' % tuple(place[4:]) for place in places])
+
+
+def idle_report(page):
+    """A statistics report of a page's first row that adds 0 from the last report, so that posting it gives the page back."""
+    sac_sic, octet, typ = page[16:20], page[20:22], page[22:24]
+    return '170013F140' + sac_sic + '03' + octet + '000000' + '01' + typ + '8000000000'
+
+
+def kept(page, room, number, out):
+    """A page through a post that changes nothing; a fresh one, which has no row for that, through the example P8."""
+    if len(page) < 24 or page.upper() == FRESH:
+        block, after = P8 + POSTED[0][0], POSTED[0][1]
+        if number == 12 or number == 0 and room < len(after) // 2:
+            number, out = 12, ''
+        elif number == 0:
+            out = after
+        return line('post', page, block, 0, room, number, out)
+    return line('post', page, idle_report(page), 0, room, number, out)
+
+
+def line_of(case):
+    """A case as a line, or None where it cannot be said through the library."""
+    op, number = case['op'], case['number']
+    if op == 'read':
+        return line(op, case['in'], number, case['offset'], case['len'], case['count'])
+    if op == 'step':
+        return line(op, case['in'], case['start'], number, case['offset'], case['next'], *cells_of(case['record']))
+    if op == 'entry':
+        entry = case['entry'] or {'cat': 0, 'main': 0, 'sub': 0}
+        values = [entry[name] for name in (('type', 'ref', 'count') if 'type' in entry else ('cat', 'main', 'sub'))]
+        return line(op, case['in'], case['start'], case['k'], number, case['offset'], *values)
+    if op == 'rewrite':
+        return line(op, case['in'], room_of(case), number, case['out'])
+    if op == 'write':
+        cells = cells_of(case['record'])
+        return cells and line(op, *cells, case['source'], room_of(case), number, case['out'])
+    if op == 'post':
+        page = page_of(case['ledger'])
+        return page and line(op, page, case['in'], case['k'], ENOUGH, number, page_of(case['after']) if number == 0 else '')
+    if op == 'load':
+        return kept(case['page'], ENOUGH, number, case['page'] if number == 0 else '')
+    page = page_of(case['ledger'])
+    return page and kept(page, room_of(case), number, case['out'])
+
+
+def examples():
+    for octets, number, count in EXAMPLES:
+        length = int(octets[2:6], 16) if number == 0 else 0
+        yield line('read', octets, number, 3 if number in OF_A_RECORD else 0, length, count)
+    page = FRESH
+    for entry, after in POSTED:
+        yield line('post', page, P8 + entry, 0, ENOUGH, 0, after)
+        page = after
+
+
+def main():
+    print('\n'.join(examples()))
+    why = {'write': 'an extension of item 110, for which a record has no cell', 'post': 'a ledger that no page can say',
+           'store': 'a ledger that no page can say'}
+    for op, count in CASES.items():
+        with open(os.path.join(BASE, op + '.jsonl')) as f:
+            cases = [json.loads(text) for text in f]
+        if len(cases) != count or any(case['op'] != op for case in cases):
+            sys.exit('vectors.py: %s.jsonl has not its %d cases' % (op, count))
+        lines = [line_of(case) for case in cases]
+        left_out = lines.count(None)
+        print('\n'.join(text for text in lines if text))
+        note = ', %d left out: %s' % (left_out, why[op]) if left_out else ''
+        print('stored %s: %d of %d%s' % (op, count - left_out, count, note), file=sys.stderr)
+    print('examples of document 01: %d' % (len(EXAMPLES) + len(POSTED)), file=sys.stderr)
+
+
+main()
