@@ -281,8 +281,8 @@ pub fn post_report(
     )
 }
 
-// A typed record posted to lent columns. For the next layer: the columns keep the rules, and a step handed out the record.
-pub fn post_record(
+// A typed record posted to lent columns, which keep the rules; a step handed out the record.
+fn post_record(
     count: &mut usize,
     keys: &mut [u32; 256],
     lives: &mut [u64; 256],
