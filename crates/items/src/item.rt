@@ -35,6 +35,8 @@ use layouts::category::Cat242;
 use layouts::category::Field;
 use layouts::ends::End;
 use layouts::ends::Kind;
+use layouts::ends::counted_end;
+use layouts::ends::varying_end;
 use layouts::form::Form;
 use octets::refusal;
 
@@ -354,12 +356,11 @@ fn varying_fits(s: &[u8], at: usize, form: Form) -> bool
     }
 }
 
-// As pass, of an item of no fixed length.
-fn pass_varying(s: &[u8], len: usize, at: usize, form: Form, kind: Kind) -> End
-    requires { ⌜ (at ≤ len) × (len ≤ length (now s)) × (kind ≡ kindOf (layout form)) × ((n : ℕ) → kind ≡ Kind.Fixed n → ⊥) ⌝ }
-    ensures { λ r. ⌜ r ≡ endOf (itemAt (now (s .entry)) len (format (layout form)) at) ⌝ }
+// Where an item of no fixed length ends, once its values have been judged: 11 for one out of its range.
+fn judged(s: &[u8], at: usize, form: Form, end: End) -> End
+    requires { ⌜ ((n : ℕ) → kindOf (layout form) ≡ Kind.Fixed n → ⊥) × ((len : ℕ) × (len ≤ length (now s)) × (end ≡ kindEnd (now s) len (kindOf (layout form)) at)) ⌝ }
+    ensures { λ r. ⌜ ((len : ℕ) → end ≡ kindEnd (now (s .entry)) len (kindOf (layout form)) at → r ≡ endOf (itemAt (now (s .entry)) len (format (layout form)) at)) ⌝ }
 {
-    let end = layouts::ends::kind_end(s, len, at, kind);
     match end {
         End::Refused(n) => End::Refused(n),
         End::At(q) => {
@@ -391,7 +392,8 @@ pub fn pass(s: &[u8], len: usize, at: usize, field: Field) -> End
                 End::Refused(refusal::OUT_OF_RANGE)
             }
         }
-        _ => pass_varying(s, len, at, form, kind),
+        Kind::Repeated(size) => judged(s, at, form, counted_end(s, len, at, 0, size)),
+        _ => judged(s, at, form, varying_end(s, len, at, kind)),
     }
 }
 

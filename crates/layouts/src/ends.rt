@@ -35,8 +35,9 @@ fn room_end(len: usize, at: usize, size: usize) -> End
     }
 }
 
-// An octet that counts so many more than the parts behind it.
-fn counted_end(s: &[u8], len: usize, at: usize, extra: u8, size: u8) -> End
+// An octet that counts so many more than the parts behind it. Only for the next layer: the offset lies before the block's end, and that
+// in the slice.
+pub fn counted_end(s: &[u8], len: usize, at: usize, extra: u8, size: u8) -> End
     requires { ⌜ (at ≤ len) × (len ≤ length (now s)) ⌝ }
     ensures { λ r. ⌜ r ≡ countedEnd (now (s .entry)) len extra size at ⌝ }
 {
@@ -92,8 +93,8 @@ pub fn specification_end(s: &[u8], len: usize, at: usize, most: u8) -> End
     chain_end(s, len, at, refusal::LONG_SPECIFICATION, 1, more)
 }
 
-// Where an item of any kind ends. `kind_end` answers for a fixed length itself, so that it is small.
-fn varying_end(s: &[u8], len: usize, at: usize, kind: Kind) -> End
+// Where an item of any kind ends. `kind_end` answers for the usual kinds itself, so that it is small. Only for the next layer: as kind_end.
+pub fn varying_end(s: &[u8], len: usize, at: usize, kind: Kind) -> End
     requires { ⌜ (at ≤ len) × (len ≤ length (now s)) ⌝ }
     ensures { λ r. ⌜ r ≡ kindEnd (now (s .entry)) len kind at ⌝ }
 {
@@ -113,6 +114,7 @@ pub fn kind_end(s: &[u8], len: usize, at: usize, kind: Kind) -> End
 {
     match kind {
         Kind::Fixed(size) => room_end(len, at, size as usize),
+        Kind::Repeated(size) => counted_end(s, len, at, 0, size),
         _ => varying_end(s, len, at, kind),
     }
 }
