@@ -7,6 +7,7 @@ pub mod WindowLaws
 pub mod BeforeLaws
 pub mod AlikeLaws
 pub mod MarksLaws
+pub mod NextLaws
 pub mod PresenceLaws
 pub mod WalkSteps
 pub mod ReadSteps
