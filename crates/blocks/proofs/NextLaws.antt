@@ -1,11 +1,13 @@
 -- The first marked field from a field on. Assumes nothing.
 use mathlib.Core.Path.{_≡_, sym, _∙_}
+use mathlib.Core.Bool.{Bool, true, false}
+use mathlib.Core.List.{List, [], _∷_}
 use Prim.Native.Nat.{ℕ, zero, suc, _+_, _-_, _/_, _%_, _^_, _≤_, _<_}
-use native.Mathlib.Nat.{div-one, div-div-eq-div-mul, pow-succ', sub-zero}
+use native.Mathlib.Nat.{div-one, div-div-eq-div-mul, pow-succ', sub-zero, sub-self}
 use native.Mathlib.Numerals.{add-one}
 use native.Mathlib.Omega.{arith}
 use borrow.Author.Tests.{eq-eqb, ne-eqb}
-use lib.ListN.{drop}
+use lib.ListN.{length, getD, drop}
 use Rattle.blocks.specs.Marks.{flagsOf, nextMarked}
 
 -- the marks from a field on are those of the number shifted
@@ -16,6 +18,23 @@ flags-drop zero m (suc k) h = absurd (omega arith)
 flags-drop (suc n) m (suc k) h =
     let e : suc n - suc k ≡ n - k = omega arith in
     rw (e, flags-drop n (m / 2) k (omega arith), div-div-eq-div-mul, pow-succ')
+
+-- it lies from the first field up to the one behind the last
+pub next-within : (bs : List Bool) (f : ℕ) → (f ≤ nextMarked bs f) × (nextMarked bs f ≤ f + length bs)
+unfolding nextMarked
+next-within [] f = (omega arith, omega arith)
+next-within (true ∷ bs) f = (omega arith, omega arith)
+next-within (false ∷ bs) f = let w = next-within bs (suc f) in (omega arith, omega arith)
+
+-- and is marked, where it is one of the fields
+pub next-marked : (bs : List Bool) (f : ℕ) → nextMarked bs f < f + length bs → getD bs (nextMarked bs f - f) false ≡ true
+unfolding nextMarked
+next-marked [] f h = absurd (omega arith)
+next-marked (true ∷ bs) f h = rw sub-self
+next-marked (false ∷ bs) f h =
+    let low = next-within bs (suc f) .0 in
+    let e : nextMarked bs (suc f) - f ≡ suc (nextMarked bs (suc f) - suc f) = omega arith in
+    rw e (next-marked bs (suc f) (omega arith))
 
 -- none is marked
 next-none : (n f : ℕ) → nextMarked (flagsOf n 0) f ≡ f + n
