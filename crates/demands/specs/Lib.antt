@@ -1,4 +1,5 @@
 pub mod Examples
 pub mod Contracts
+pub mod Claims
 pub mod Runs
 pub mod Verdicts
