@@ -1,5 +1,5 @@
 -- The code of each public operation meets just the words of specs/Contracts.antt, by the operation's own theorem: a contract that says less, more or
--- other than these words is refused here. Assumes nothing.
+-- other than these words, or asks anything of a caller, is refused here. Assumes nothing.
 use denote.Ref.{now}
 use Rattle.blocks.proofs.walk.read as read
 use Rattle.blocks.proofs.cursor.Cursor.step as step
