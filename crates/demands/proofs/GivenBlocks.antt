@@ -121,6 +121,11 @@ module _ (s : List ℕ) (n at : ℕ) (o : Octets s) where
     pub read-given : (r ≡ Reading.Refused n at) ↔ BlockFault s n at
     read-given = Iff·trans stopped-exactly (stopped-fault, fault-stopped)
 
+-- no other number refuses a block
+pub read-numbers : (s : List ℕ) (n at : ℕ) → Octets s → Stopped s n at → (1 ≤ n) × (n ≤ 11)
+read-numbers s n at o (inl (h, z)) = omega (arith, header-numbers s n h)
+read-numbers s n at o (inr (cat, len, rs, h, j, e, l)) = omega (arith, record-numbers s len (category cat) at o (some s o cat len h at) n e)
+
 module _ (s : List ℕ) (len n : ℕ) (o : Octets s) (r : Reading) (h : Reads s r) where
   -- 0 of a block: its records fill LEN exactly; and there is one at least.
   pub accepted-exactly : (r ≡ Reading.Accepted len n) ↔ Full s len n
