@@ -6,3 +6,5 @@ pub mod Demand3
 pub mod Unique
 pub mod GivenBlocks
 pub mod GivenPosts
+pub mod GivenOutputs
+pub mod GivenPages
