@@ -18,6 +18,7 @@ use Rattle.blocks.specs.Boundaries.{Full, Stopped}
 use Rattle.blocks.specs.Faults.{Passes, Cut, Faulty}
 use Rattle.blocks.specs.Headers.{headerOf}
 use Rattle.blocks.specs.Offsets.{recordAt}
+use Rattle.blocks.specs.Walks.{readOf}
 use Rattle.blocks.specs.Steps.{stepOf, listedStep, foundOf, entryOf, listedEntry}
 use Rattle.blocks.specs.declared.cursor.Found.{Found}
 use Rattle.blocks.specs.declared.cursor.Step.{Step}
@@ -112,6 +113,9 @@ module _ (s : List ℕ) (n at : ℕ) (o : Octets s) where
   stopped-fault (inl (h, z)) = BlockFault.header (to-header s n h) z
   stopped-fault (inr (cat, len, rs, h, j, e, l)) = first cat len h rs j l (to-record s o cat len h at n e)
 
+  pub reading-given : (readOf s ≡ Reading.Refused n at) ↔ BlockFault s n at
+  reading-given = (λ e. stopped-fault (read-stopped s n at o e), λ w. stopped-read s n at (fault-stopped w))
+
   module _ (r : Reading) (h : Reads s r) where
     -- A block is refused exactly where it is stopped: by its header, or by the first record that is faulty.
     pub stopped-exactly : (r ≡ Reading.Refused n at) ↔ Stopped s n at
@@ -119,20 +123,20 @@ module _ (s : List ℕ) (n at : ℕ) (o : Octets s) where
 
     -- 1 to 11 of a block, with the offset: given when, and only then.
     pub read-given : (r ≡ Reading.Refused n at) ↔ BlockFault s n at
-    read-given = Iff·trans stopped-exactly (stopped-fault, fault-stopped)
+    read-given = (λ e. reading-given .0 (sym (h .0) ∙ e), λ w. h .0 ∙ reading-given .1 w)
 
 -- no other number refuses a block
 pub read-numbers : (s : List ℕ) (n at : ℕ) → Octets s → Stopped s n at → (1 ≤ n) × (n ≤ 11)
 read-numbers s n at o (inl (h, z)) = omega (arith, header-numbers s n h)
 read-numbers s n at o (inr (cat, len, rs, h, j, e, l)) = omega (arith, record-numbers s len (category cat) at o (some s o cat len h at) n e)
 
+pub full-read : (s : List ℕ) (len n : ℕ) → Full s len n → readOf s ≡ Reading.Accepted len n
+full-read s len n (cat, rs, h, j, count, is) = filled-read s cat len rs h j ∙ ap (Reading.Accepted len) count
+
 module _ (s : List ℕ) (len n : ℕ) (o : Octets s) (r : Reading) (h : Reads s r) where
   -- 0 of a block: its records fill LEN exactly; and there is one at least.
   pub accepted-exactly : (r ≡ Reading.Accepted len n) ↔ Full s len n
-  accepted-exactly = (
-    λ e. read-filled s len n o (sym (h .0) ∙ e),
-    λ w. h .0 ∙ filled-read s (w .0) len (w .1) (w .2) (w .3) ∙ ap (Reading.Accepted len) (w .4),
-  )
+  accepted-exactly = (λ e. read-filled s len n o (sym (h .0) ∙ e), λ w. h .0 ∙ full-read s len n w)
 
   pub accepted-some : r ≡ Reading.Accepted len n → 1 ≤ n
   accepted-some e = read-some s len n o (sym (h .0) ∙ e)

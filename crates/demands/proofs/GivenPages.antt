@@ -1,14 +1,14 @@
--- Loading and storing: 16 and 12 are given when document 01's table says, and only then (specs/Given.antt). Assumes nothing.
+-- Loading and storing: 16 and 12 are given when document 01's table says, and only then (specs/GivenPages.antt). Assumes nothing.
 use mathlib.Core.Bool.{true, false, false≢true}
 use mathlib.Core.List.{List, []}
 use mathlib.Core.Logic.{_↔_, Iff·trans, _⊎_, inl, inr}
-use mathlib.Core.Path.{_≡_, refl, sym, ap, _∙_}
-use Prim.Native.Nat.{ℕ, _≤_}
+use mathlib.Core.Path.{_≡_, sym, ap, _∙_}
+use Prim.Native.Nat.{ℕ, _≤_, _<_}
 use native.Mathlib.Omega.{arith}
 use borrow.Author.Tests.{le-leb, eq-eqb}
 use lib.ListN.{length}
 use Rattle.octets.specs.Outcomes.{no, puts}
-use Rattle.octets.specs.Refusals.{rulesBroken}
+use Rattle.octets.specs.Refusals.{outputTooShort, rulesBroken}
 use Rattle.octets.specs.declared.output.Written.{Written}
 use Rattle.octets.proofs.Cases.{test, choose}
 use Rattle.ledger.specs.Ledgers.{answer, rowsOf, ledgerOf, keepsRules}
@@ -17,8 +17,8 @@ use Rattle.ledger.specs.declared.Answer.{Answer}
 use Rattle.ledger.specs.declared.Ledger.{Ledger}
 use Rattle.ledger.proofs.PageLaws.{head-says}
 use Rattle.demands.specs.Contracts.{Loads, Stores}
-use Rattle.demands.specs.Given.{OutputFault, refuses, PageHead, Page, NoPage, StoreFault, broken}
-use Rattle.demands.proofs.GivenOutputs.{output-given, output-written}
+use Rattle.demands.specs.GivenPages.{PageHead, Page, NoPage, StoreFault, broken, short}
+use Rattle.demands.proofs.GivenOutputs.{no-same, not-puts, output-given, output-written}
 
 -- A page's head, in words.
 pub head-given : (s : List ℕ) → (headKeeps s ≡ true) ↔ PageHead s
@@ -71,12 +71,6 @@ module _ (s : List ℕ) where
 
 -- Storing
 
-no-same : {n m : ℕ} → no n ≡ no m → n ≡ m
-no-same e = cc
-
-not-puts : {n : ℕ} {xs : List ℕ} → no n ≡ puts xs → ⊥
-not-puts e = let z : _≡_ {A = ℕ} 0 1 = cc in omega arith
-
 module _ (l : Ledger) where
   store-no : (n : ℕ) → (storeOf l ≡ no n) ↔ ((keepsRules l ≡ false) × (n ≡ rulesBroken))
   unfolding storeOf
@@ -93,26 +87,24 @@ module _ (l : Ledger) where
       (λ f. (λ e. absurd (not-puts e), λ w. absurd (false≢true (sym f ∙ w .0))))
 
   module _ (o out : List ℕ) (n : ℕ) (r : Written) (h : Stores l o out r) where
-    to-store : OutputFault (storeOf l) o n → StoreFault l o n
-    to-store (refuses e) = let w = store-no n .0 e in broken (w .0) (w .1)
-    to-store (OutputFault.short xs e m is) = let w = store-puts xs .0 e in StoreFault.short (w .0) (rw (w .1) m) is
+    as-store : (((keepsRules l ≡ false) × (n ≡ rulesBroken)) ⊎ ((keepsRules l ≡ true) × (length o < length (pageOf (rowsOf l))) × (n ≡ outputTooShort)))
+        ↔ StoreFault l o n
+    as-store = (to, of)
+      where
+        to : ((keepsRules l ≡ false) × (n ≡ rulesBroken)) ⊎ ((keepsRules l ≡ true) × (length o < length (pageOf (rowsOf l))) × (n ≡ outputTooShort))
+            → StoreFault l o n
+        to (inl w) = broken (w .0) (w .1)
+        to (inr w) = short (w .0) (w .1) (w .2)
 
-    of-store : StoreFault l o n → OutputFault (storeOf l) o n
-    of-store (broken f e) = refuses (store-no n .1 (f, e))
-    of-store (StoreFault.short t m is) = OutputFault.short (pageOf (rowsOf l)) (store-puts (pageOf (rowsOf l)) .1 (t, refl)) m is
+        of : StoreFault l o n
+            → ((keepsRules l ≡ false) × (n ≡ rulesBroken)) ⊎ ((keepsRules l ≡ true) × (length o < length (pageOf (rowsOf l))) × (n ≡ outputTooShort))
+        of (broken f e) = inl (f, e)
+        of (short t m e) = inr (t, m, e)
 
     -- 16, where the ledger breaks the rules; 12, where it keeps them and the output is shorter than the page.
     pub store-given : (r ≡ Written.Refused n) ↔ StoreFault l o n
-    store-given = Iff·trans (output-given o n (storeOf l) r (h .1)) (to-store, of-store)
+    store-given = Iff·trans (output-given (storeOf l) _ _ (pageOf (rowsOf l)) store-no store-puts o n r (h .1)) as-store
 
     -- Else the page goes out, and its length is answered.
     pub store-written : (r ≡ Written.Octets n) ↔ ((keepsRules l ≡ true) × (length (pageOf (rowsOf l)) ≤ length o) × (n ≡ length (pageOf (rowsOf l))))
-    store-written = Iff·trans (output-written o n (storeOf l) r (h .1)) (to, of)
-      where
-        to : (xs : List ℕ) × (storeOf l ≡ puts xs) × (length xs ≤ length o) × (n ≡ length xs)
-            → (keepsRules l ≡ true) × (length (pageOf (rowsOf l)) ≤ length o) × (n ≡ length (pageOf (rowsOf l)))
-        to (xs, e, m, is) = let w = store-puts xs .0 e in (w .0, rw (w .1) m, rw (w .1) is)
-
-        of : (keepsRules l ≡ true) × (length (pageOf (rowsOf l)) ≤ length o) × (n ≡ length (pageOf (rowsOf l)))
-            → (xs : List ℕ) × (storeOf l ≡ puts xs) × (length xs ≤ length o) × (n ≡ length xs)
-        of (t, m, is) = (pageOf (rowsOf l), store-puts (pageOf (rowsOf l)) .1 (t, refl), m, is)
+    store-written = output-written (storeOf l) _ _ (pageOf (rowsOf l)) store-no store-puts o n r (h .1)

@@ -46,7 +46,14 @@ module _ (l : Ledger) (s : List ℕ) (k : ℕ) (o : Octets s) where
 
   read-turn : (n : ℕ) → (1 ≤ n) × (n ≤ 11) → 2 ≡ turnOf n
   read-turn n h =
-      rw (ne-eqb n 16 (λ e. omega arith), ne-eqb n 17 (λ e. omega arith), ne-eqb n 13 (λ e. omega arith), ne-eqb n 14 (λ e. omega arith), ne-eqb n 15 (λ e. omega arith), ne-eqb n 0 (λ e. omega arith))
+      rw (
+        ne-eqb n 16 (λ e. omega arith),
+        ne-eqb n 17 (λ e. omega arith),
+        ne-eqb n 13 (λ e. omega arith),
+        ne-eqb n 14 (λ e. omega arith),
+        ne-eqb n 15 (λ e. omega arith),
+        ne-eqb n 0 (λ e. omega arith),
+      )
 
   turn-of : (n : ℕ) (v : Verdict l s k n) → turn v ≡ turnOf n
   turn-of n (broken f e) = rw e

@@ -7,4 +7,6 @@ pub mod Unique
 pub mod GivenBlocks
 pub mod GivenPosts
 pub mod GivenOutputs
+pub mod GivenItems
+pub mod GivenWriting
 pub mod GivenPages

@@ -1,15 +1,12 @@
--- When each refusal number is given, at each public operation, in the words of document 01's table "Refusal numbers" and in its orders. The laws, a
--- number is given when this holds and only then, are in proofs/GivenBlocks.antt (reading, steps, entries) and proofs/GivenPages.antt (pages). Of a
--- post the conditions are in specs/Verdicts.antt, the laws in proofs/GivenPosts.antt.
-use mathlib.Core.Bool.{true, false}
+-- When each refusal number of reading is given, in the words of document 01's table "Refusal numbers" and in its order. The laws, a number is given
+-- when this holds and only then, are in proofs/GivenBlocks.antt. The other operations:
+-- writing and rewriting: specs/GivenWriting.antt, proofs/GivenWriting.antt; a post: specs/Verdicts.antt, proofs/GivenPosts.antt;
+-- loading and storing: specs/GivenPages.antt, proofs/GivenPages.antt.
 use mathlib.Core.List.{List}
 use mathlib.Core.Logic.{_⊎_}
 use mathlib.Core.Path.{_≡_}
 use Prim.Native.Nat.{ℕ, _≤_, _<_}
-use lib.ListN.{length}
-use Rattle.octets.specs.Numbers.{number}
-use Rattle.octets.specs.Outcomes.{Outcome, no, puts}
-use Rattle.octets.specs.Refusals.{tooShort, unknownCategory, lenTooSmall, longSpecification, spareMarked, noneMarked, passesEnd, noCount, pastLast, presenceBroken, outOfRange, outputTooShort, rulesBroken, noSuch}
+use Rattle.octets.specs.Refusals.{tooShort, unknownCategory, lenTooSmall, longSpecification, spareMarked, noneMarked, passesEnd, noCount, pastLast, presenceBroken, outOfRange, noSuch}
 use Rattle.layouts.specs.Layouts.{kindOf}
 use Rattle.layouts.specs.Tables.{layout}
 use Rattle.layouts.specs.Categories.{Category, category}
@@ -21,11 +18,6 @@ use Rattle.blocks.specs.Steps.{stepOf}
 use Rattle.blocks.specs.declared.cursor.Step.{Step}
 use Rattle.blocks.specs.declared.header.Head.{Head}
 use Rattle.blocks.specs.declared.record.Record.{Record}
-use Rattle.ledger.specs.Ledgers.{rowsOf, keepsRules}
-use Rattle.ledger.specs.Pages.{keysAt, readingsAt, pageLength, pageOf, countIn, headKeeps, ledgerIn}
-use Rattle.ledger.specs.declared.Ledger.{Ledger}
-
--- Reading (01 "Reading order")
 
 -- a header: 1, 2, 3
 pub data HeaderFault (s : List ℕ) (n : ℕ) : Type 0 where
@@ -70,32 +62,3 @@ NoEntry s start k = (t : Record) × (next : ℕ) × (stepOf s start ≡ Step.Tak
 pub data EntryFault (s : List ℕ) (start k n at : ℕ) : Type 0 where
   step : StepFault s start n at → EntryFault s start k n at
   missing : NoEntry s start k → n ≡ noSuch → at ≡ 0 → EntryFault s start k n at
-
--- Whatever is put into a lent output: its own refusals, then 12
-
--- "12: output too short": for the octets that are to be put out
-pub data OutputFault (x : Outcome) (l : List ℕ) (n : ℕ) : Type 0 where
-  refuses : x ≡ no n → OutputFault x l n
-  short : (xs : List ℕ) → x ≡ puts xs → length l < length xs → n ≡ outputTooShort → OutputFault x l n
-
--- Pages (01 "Ledger")
-
--- a page's head: 256 rows at most, the offsets and the length that their number gives, and exactly so many octets
-pub record PageHead (s : List ℕ) : Type 0 where
-  pub few : countIn s ≤ 256
-  pub keys : number 2 s 2 ≡ keysAt
-  pub readings : number 2 s 4 ≡ readingsAt (countIn s)
-  pub size : number 2 s 6 ≡ pageLength (countIn s)
-  pub long : length s ≡ pageLength (countIn s)
-
--- a page, with a ledger that keeps the rules; and octets that are none: "16: ledger or page breaks its rules"
-abbrev pub Page : List ℕ → Type 0
-Page s = (headKeeps s ≡ true) × (keepsRules (ledgerIn s) ≡ true)
-
-abbrev pub NoPage : List ℕ → Type 0
-NoPage s = (headKeeps s ≡ false) ⊎ ((headKeeps s ≡ true) × (keepsRules (ledgerIn s) ≡ false))
-
--- storing: 16, then 12
-pub data StoreFault (l : Ledger) (o : List ℕ) (n : ℕ) : Type 0 where
-  broken : keepsRules l ≡ false → n ≡ rulesBroken → StoreFault l o n
-  short : keepsRules l ≡ true → length o < length (pageOf (rowsOf l)) → n ≡ outputTooShort → StoreFault l o n

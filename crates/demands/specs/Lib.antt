@@ -3,3 +3,5 @@ pub mod Contracts
 pub mod Runs
 pub mod Verdicts
 pub mod Given
+pub mod GivenWriting
+pub mod GivenPages
