@@ -1,14 +1,14 @@
 -- Loading and storing: 16 and 12 are given when document 01's table says, and only then (specs/GivenPages.antt). Assumes nothing.
 use mathlib.Core.Bool.{true, false, false≢true}
 use mathlib.Core.List.{List, []}
-use mathlib.Core.Logic.{_↔_, Iff·trans, _⊎_, inl, inr}
+use mathlib.Core.Logic.{_↔_, _⊎_, inl, inr}
 use mathlib.Core.Path.{_≡_, sym, ap, _∙_}
-use Prim.Native.Nat.{ℕ, _≤_, _<_}
+use Prim.Native.Nat.{ℕ, _≤_}
 use native.Mathlib.Omega.{arith}
 use borrow.Author.Tests.{le-leb, eq-eqb}
 use lib.ListN.{length}
 use Rattle.octets.specs.Outcomes.{no, puts}
-use Rattle.octets.specs.Refusals.{outputTooShort, rulesBroken}
+use Rattle.octets.specs.Refusals.{rulesBroken}
 use Rattle.octets.specs.declared.output.Written.{Written}
 use Rattle.octets.proofs.Cases.{test, choose}
 use Rattle.ledger.specs.Ledgers.{answer, rowsOf, ledgerOf, keepsRules}
@@ -17,7 +17,7 @@ use Rattle.ledger.specs.declared.Answer.{Answer}
 use Rattle.ledger.specs.declared.Ledger.{Ledger}
 use Rattle.ledger.proofs.PageLaws.{head-says}
 use Rattle.demands.specs.Contracts.{Loads, Stores}
-use Rattle.demands.specs.GivenPages.{PageHead, Page, NoPage, StoreFault, broken, short}
+use Rattle.demands.specs.GivenPages.{PageHead, Page, NoPage, StoreFault}
 use Rattle.demands.proofs.GivenOutputs.{no-same, not-puts, output-given, output-written}
 
 -- A page's head, in words.
@@ -87,23 +87,9 @@ module _ (l : Ledger) where
       (λ f. (λ e. absurd (not-puts e), λ w. absurd (false≢true (sym f ∙ w .0))))
 
   module _ (o out : List ℕ) (n : ℕ) (r : Written) (h : Stores l o out r) where
-    as-store : (((keepsRules l ≡ false) × (n ≡ rulesBroken)) ⊎ ((keepsRules l ≡ true) × (length o < length (pageOf (rowsOf l))) × (n ≡ outputTooShort)))
-        ↔ StoreFault l o n
-    as-store = (to, of)
-      where
-        to : ((keepsRules l ≡ false) × (n ≡ rulesBroken)) ⊎ ((keepsRules l ≡ true) × (length o < length (pageOf (rowsOf l))) × (n ≡ outputTooShort))
-            → StoreFault l o n
-        to (inl w) = broken (w .0) (w .1)
-        to (inr w) = short (w .0) (w .1) (w .2)
-
-        of : StoreFault l o n
-            → ((keepsRules l ≡ false) × (n ≡ rulesBroken)) ⊎ ((keepsRules l ≡ true) × (length o < length (pageOf (rowsOf l))) × (n ≡ outputTooShort))
-        of (broken f e) = inl (f, e)
-        of (short t m e) = inr (t, m, e)
-
     -- 16, where the ledger breaks the rules; 12, where it keeps them and the output is shorter than the page.
     pub store-given : (r ≡ Written.Refused n) ↔ StoreFault l o n
-    store-given = Iff·trans (output-given (storeOf l) _ _ (pageOf (rowsOf l)) store-no store-puts o n r (h .1)) as-store
+    store-given = output-given (storeOf l) _ _ (pageOf (rowsOf l)) store-no store-puts o n r (h .1)
 
     -- Else the page goes out, and its length is answered.
     pub store-written : (r ≡ Written.Octets n) ↔ ((keepsRules l ≡ true) × (length (pageOf (rowsOf l)) ≤ length o) × (n ≡ length (pageOf (rowsOf l))))

@@ -1,7 +1,7 @@
 -- The refusal numbers of writing and of rewriting, each given when document 01's table says, and only then (specs/GivenWriting.antt). Assumes nothing.
 use mathlib.Core.Bool.{Bool, true, false, false≢true}
 use mathlib.Core.List.{List}
-use mathlib.Core.Logic.{_↔_, Iff·trans, _⊎_, inl, inr}
+use mathlib.Core.Logic.{_↔_}
 use mathlib.Core.Path.{_≡_, refl, sym, ap, _∙_}
 use Prim.Native.Nat.{ℕ, zero, suc, _≤_, _<_}
 use native.Mathlib.Omega.{arith}
@@ -11,7 +11,7 @@ use lib.ListN.{length, getD}
 use Rattle.octets.specs.Choice.{pick}
 use Rattle.octets.specs.Numbers.{Octets, number}
 use Rattle.octets.specs.Outcomes.{no, puts}
-use Rattle.octets.specs.Refusals.{unknownCategory, noneMarked, spareMarked, presenceBroken, outputTooShort}
+use Rattle.octets.specs.Refusals.{unknownCategory, noneMarked, spareMarked, presenceBroken}
 use Rattle.octets.specs.declared.output.Written.{Written}
 use Rattle.octets.proofs.Cases.{test, choose}
 use Rattle.layouts.specs.Layouts.{isUnused}
@@ -32,8 +32,7 @@ use Rattle.writing.specs.Written.{writeOf, rewriteFrom, rewriteOf}
 use Rattle.writing.proofs.MarksWritten.{present-by-type}
 use Rattle.writing.proofs.ReadBackTheorems.{marks-flags}
 use Rattle.demands.specs.Contracts.{Writes, Rewrites}
-use Rattle.demands.specs.Given.{BlockFault}
-use Rattle.demands.specs.GivenWriting.{ItemFault, Marked, itemOn, NothingMarked, SpareOnMark, GoodMarks, FirstFaulty, GoodItems, itsBlock, TypedFault, Writable, WriteFault, normalOf, Accepted, RewriteFault}
+use Rattle.demands.specs.GivenWriting.{ItemFault, Marked, itemOn, NothingMarked, SpareOnMark, GoodMarks, FirstFaulty, GoodItems, itsBlock, TypedFault, Writable, WriteFault, normalOf, Unread, Accepted, RewriteFault}
 use Rattle.demands.proofs.GivenBlocks.{reading-given, full-read}
 use Rattle.demands.proofs.GivenItems.{item-fault, fault-item, not-zero, item-given-0, on, first-of, of-first, all-good, good-all, there}
 use Rattle.demands.proofs.GivenOutputs.{no-same, not-puts, output-given, output-written}
@@ -65,9 +64,8 @@ module _ (s : List ℕ) (t : Record) (small : t .marks < 4294967296) where
       go (suc i) m u = at-spare marks forms i m u
 
   -- the tests on the marks, and the same in words
-  module _ (k : known (t .category) ≡ true) where
-    good-marks : (t .marks ≡ 0 → ⊥) → marksSpare marks forms ≡ false → GoodMarks s t
-    good-marks d f = (k, (λ h. d (none-zero h)), λ w. false≢true (sym f ∙ there-spare w))
+  good-marks : known (t .category) ≡ true → (t .marks ≡ 0 → ⊥) → marksSpare marks forms ≡ false → GoodMarks s t
+  good-marks k d f = (k, (λ h. d (none-zero h)), λ w. false≢true (sym f ∙ there-spare w))
 
   marks-good : GoodMarks s t → (t .marks ≡ 0 → ⊥) × (marksSpare marks forms ≡ false)
   marks-good (k, d, f) = (λ z. d (zero-none z), test (marksSpare marks forms) (λ e. absurd (f (spare-there e))) (λ e. e))
@@ -164,7 +162,7 @@ module _ (s : List ℕ) (t : Record) (small : t .marks < 4294967296) where
   pub typed-given : (n : ℕ) → ((recordRefusal s t ≡ n) × (n ≡ 0 → ⊥)) ↔ TypedFault s t n
   typed-given n = (λ w. typed-fault n (w .0) (w .1), fault-typed n)
 
-  typed-given-0 : (recordRefusal s t ≡ 0) ↔ Writable s t
+  pub typed-given-0 : (recordRefusal s t ≡ 0) ↔ Writable s t
   typed-given-0 = (
     λ e m w. let (f, z) = fault-typed m w in z (sym f ∙ e),
     λ h. test (eqb (recordRefusal s t) 0) (eqb-true _ _) (λ e. absurd (h (recordRefusal s t) (typed-fault _ refl (eqb-false _ _ e)))),
@@ -186,20 +184,9 @@ module _ (s : List ℕ) (t : Record) (small : t .marks < 4294967296) where
       (λ a. (λ e. absurd (not-puts e), λ w. absurd (eqb-false _ _ a (typed-given-0 .1 (w .0)))))
 
   module _ (l out : List ℕ) (n : ℕ) (r : Written) (h : Writes s t l out r) where
-    as-write : (TypedFault s t n ⊎ (Writable s t × (length l < length (itsBlock s t)) × (n ≡ outputTooShort))) ↔ WriteFault s t l n
-    as-write = (to, of)
-      where
-        to : TypedFault s t n ⊎ (Writable s t × (length l < length (itsBlock s t)) × (n ≡ outputTooShort)) → WriteFault s t l n
-        to (inl w) = WriteFault.typed w
-        to (inr w) = WriteFault.short (w .0) (w .1) (w .2)
-
-        of : WriteFault s t l n → TypedFault s t n ⊎ (Writable s t × (length l < length (itsBlock s t)) × (n ≡ outputTooShort))
-        of (WriteFault.typed w) = inl w
-        of (WriteFault.short w m e) = inr (w, m, e)
-
     -- 2, 6, 5, 7, 8, 11, 10 and 12 of a record to be written: given when, and only then; and no other number.
     pub write-given : (r ≡ Written.Refused n) ↔ WriteFault s t l n
-    write-given = Iff·trans (output-given (writeOf s t) (TypedFault s t) (Writable s t) (itsBlock s t) write-no write-puts l n r (h .1)) as-write
+    write-given = output-given (writeOf s t) (TypedFault s t) (Writable s t) (itsBlock s t) write-no write-puts l n r (h .1)
 
     -- Else the record goes out as a block, and its length is answered.
     pub write-written : (r ≡ Written.Octets n) ↔ (Writable s t × (length (itsBlock s t) ≤ length l) × (n ≡ length (itsBlock s t)))
@@ -211,11 +198,11 @@ module _ (s : List ℕ) (o : Octets s) where
   by-block : (b : Block) → blockOf s ≡ b → readOf s ≡ answerOf (number 2 s 1) b
   by-block b e = read-block s ∙ ap (answerOf (number 2 s 1)) e
 
-  rewrite-no : (n : ℕ) → (rewriteOf s ≡ no n) ↔ ((at : ℕ) × BlockFault s n at)
+  rewrite-no : (n : ℕ) → (rewriteOf s ≡ no n) ↔ Unread s n
   unfolding rewriteOf
   rewrite-no n = go (blockOf s) refl
     where
-      go : (b : Block) → blockOf s ≡ b → (rewriteFrom b ≡ no n) ↔ ((at : ℕ) × BlockFault s n at)
+      go : (b : Block) → blockOf s ≡ b → (rewriteFrom b ≡ no n) ↔ Unread s n
       go (wrong m at) e = (
         λ is. (at, reading-given s n at o .0 (rw (no-same is) at (by-block (wrong m at) e))),
         λ w. let q = sym (by-block (wrong m at) e) ∙ reading-given s n (w .0) o .1 (w .1) in cc,
@@ -240,23 +227,10 @@ module _ (s : List ℕ) (o : Octets s) where
       )
 
   module _ (l out : List ℕ) (n : ℕ) (r : Written) (h : Rewrites s l out r) where
-    as-rewrite : (((at : ℕ) × BlockFault s n at) ⊎ (Accepted s × (length l < length (normalOf (blockOf s))) × (n ≡ outputTooShort))) ↔ RewriteFault s l n
-    as-rewrite = (to, of)
-      where
-        to : ((at : ℕ) × BlockFault s n at) ⊎ (Accepted s × (length l < length (normalOf (blockOf s))) × (n ≡ outputTooShort)) → RewriteFault s l n
-        to (inl w) = RewriteFault.unread (w .0) (w .1)
-        to (inr w) = RewriteFault.short (w .0) (w .1) (w .2)
-
-        of : RewriteFault s l n → ((at : ℕ) × BlockFault s n at) ⊎ (Accepted s × (length l < length (normalOf (blockOf s))) × (n ≡ outputTooShort))
-        of (RewriteFault.unread at w) = inl (at, w)
-        of (RewriteFault.short w m e) = inr (w, m, e)
-
     -- 1 to 11 of the block, then 12.
     pub rewrite-given : (r ≡ Written.Refused n) ↔ RewriteFault s l n
-    rewrite-given =
-        Iff·trans (output-given (rewriteOf s) (λ m. (at : ℕ) × BlockFault s m at) (Accepted s) (normalOf (blockOf s)) rewrite-no rewrite-puts l n r (h .1)) as-rewrite
+    rewrite-given = output-given (rewriteOf s) (Unread s) (Accepted s) (normalOf (blockOf s)) rewrite-no rewrite-puts l n r (h .1)
 
     -- Else the normal form goes out, and its length is answered.
     pub rewrite-written : (r ≡ Written.Octets n) ↔ (Accepted s × (length (normalOf (blockOf s)) ≤ length l) × (n ≡ length (normalOf (blockOf s))))
-    rewrite-written =
-        output-written (rewriteOf s) (λ m. (at : ℕ) × BlockFault s m at) (Accepted s) (normalOf (blockOf s)) rewrite-no rewrite-puts l n r (h .1)
+    rewrite-written = output-written (rewriteOf s) (Unread s) (Accepted s) (normalOf (blockOf s)) rewrite-no rewrite-puts l n r (h .1)

@@ -1,12 +1,13 @@
--- When each refusal number of reading is given, in the words of document 01's table "Refusal numbers" and in its order. The laws, a number is given
--- when this holds and only then, are in proofs/GivenBlocks.antt. The other operations:
+-- When each refusal number of reading is given, in the words of document 01's table "Refusal numbers" and in its order; and 12. The laws, a number is
+-- given when this holds and only then, are in proofs/GivenBlocks.antt and proofs/GivenOutputs.antt. The other operations:
 -- writing and rewriting: specs/GivenWriting.antt, proofs/GivenWriting.antt; a post: specs/Verdicts.antt, proofs/GivenPosts.antt;
 -- loading and storing: specs/GivenPages.antt, proofs/GivenPages.antt.
 use mathlib.Core.List.{List}
 use mathlib.Core.Logic.{_⊎_}
 use mathlib.Core.Path.{_≡_}
 use Prim.Native.Nat.{ℕ, _≤_, _<_}
-use Rattle.octets.specs.Refusals.{tooShort, unknownCategory, lenTooSmall, longSpecification, spareMarked, noneMarked, passesEnd, noCount, pastLast, presenceBroken, outOfRange, noSuch}
+use lib.ListN.{length}
+use Rattle.octets.specs.Refusals.{tooShort, unknownCategory, lenTooSmall, longSpecification, spareMarked, noneMarked, passesEnd, noCount, pastLast, presenceBroken, outOfRange, outputTooShort, noSuch}
 use Rattle.layouts.specs.Layouts.{kindOf}
 use Rattle.layouts.specs.Tables.{layout}
 use Rattle.layouts.specs.Categories.{Category, category}
@@ -54,7 +55,7 @@ pub data StepFault (s : List ℕ) (start n at : ℕ) : Type 0 where
   here : (cat len : ℕ) → headerOf s ≡ Head.Good cat len → 3 ≤ start → start < len → RecordFault s len (category cat) start n → at ≡ start
       → StepFault s start n at
 
--- "17: no .. entry of this number": a step takes a record there, and it has no more entries than this
+-- "17: no .. entry of this number": a step takes a record there, and the number is at or past its count of entries
 abbrev pub NoEntry : List ℕ → ℕ → ℕ → Type 0
 NoEntry s start k = (t : Record) × (next : ℕ) × (stepOf s start ≡ Step.Taken t (record { at = next })) × (t .entries .count ≤ k)
 
@@ -62,3 +63,8 @@ NoEntry s start k = (t : Record) × (next : ℕ) × (stepOf s start ≡ Step.Tak
 pub data EntryFault (s : List ℕ) (start k n at : ℕ) : Type 0 where
   step : StepFault s start n at → EntryFault s start k n at
   missing : NoEntry s start k → n ≡ noSuch → at ≡ 0 → EntryFault s start k n at
+
+-- What goes into a lent output l: its own refusals; then, where it is fine, "12: output too short" for the octets xs that are to go out
+pub data OutputFault (Fault : ℕ → Type 0) (Fine : Type 0) (xs l : List ℕ) (n : ℕ) : Type 0 where
+  own : Fault n → OutputFault Fault Fine xs l n
+  outputShort : Fine → length l < length xs → n ≡ outputTooShort → OutputFault Fault Fine xs l n

@@ -4,13 +4,14 @@ use mathlib.Core.Bool.{true, false}
 use mathlib.Core.List.{List}
 use mathlib.Core.Logic.{_⊎_}
 use mathlib.Core.Path.{_≡_}
-use Prim.Native.Nat.{ℕ, _≤_, _<_}
+use Prim.Native.Nat.{ℕ, _≤_}
 use lib.ListN.{length}
 use Rattle.octets.specs.Numbers.{number}
-use Rattle.octets.specs.Refusals.{outputTooShort, rulesBroken}
+use Rattle.octets.specs.Refusals.{rulesBroken}
 use Rattle.ledger.specs.Ledgers.{rowsOf, keepsRules}
 use Rattle.ledger.specs.Pages.{keysAt, readingsAt, pageLength, pageOf, countIn, headKeeps, ledgerIn}
 use Rattle.ledger.specs.declared.Ledger.{Ledger}
+use Rattle.demands.specs.Given.{OutputFault}
 
 -- a page's head: 256 rows at most, the offsets and the length that their number gives, and exactly so many octets
 pub record PageHead (s : List ℕ) : Type 0 where
@@ -28,6 +29,5 @@ abbrev pub NoPage : List ℕ → Type 0
 NoPage s = (headKeeps s ≡ false) ⊎ ((headKeeps s ≡ true) × (keepsRules (ledgerIn s) ≡ false))
 
 -- storing: 16, then 12
-pub data StoreFault (l : Ledger) (o : List ℕ) (n : ℕ) : Type 0 where
-  broken : keepsRules l ≡ false → n ≡ rulesBroken → StoreFault l o n
-  short : keepsRules l ≡ true → length o < length (pageOf (rowsOf l)) → n ≡ outputTooShort → StoreFault l o n
+abbrev pub StoreFault : Ledger → List ℕ → ℕ → Type 0
+StoreFault l o n = OutputFault (λ m. (keepsRules l ≡ false) × (m ≡ rulesBroken)) (keepsRules l ≡ true) (pageOf (rowsOf l)) o n

@@ -6,7 +6,7 @@ use mathlib.Core.Logic.{_⊎_}
 use mathlib.Core.Path.{_≡_}
 use Prim.Native.Nat.{ℕ, _+_, _*_, _≤_, _<_}
 use lib.ListN.{length, getD}
-use Rattle.octets.specs.Refusals.{unknownCategory, spareMarked, noneMarked, passesEnd, noCount, presenceBroken, outOfRange, outputTooShort}
+use Rattle.octets.specs.Refusals.{unknownCategory, spareMarked, noneMarked, passesEnd, noCount, presenceBroken, outOfRange}
 use Rattle.layouts.specs.Groups.{fits, Group}
 use Rattle.layouts.specs.Formats.{Format, fitsIn}
 use Rattle.layouts.specs.Layouts.{isUnused}
@@ -22,7 +22,7 @@ use Rattle.blocks.specs.Presence.{rowsOf, meets}
 use Rattle.blocks.specs.Steps.{entryValues}
 use Rattle.blocks.specs.declared.record.Record.{Record}
 use Rattle.writing.specs.Judged.{typeIn}
-use Rattle.demands.specs.Given.{BlockFault}
+use Rattle.demands.specs.Given.{BlockFault, OutputFault}
 
 -- An item is given by its values; or it is entries or content, so many groups at a place of the source, which an octet counts that has e more
 
@@ -104,22 +104,23 @@ pub data TypedFault (s : List ℕ) (t : Record) (n : ℕ) : Type 0 where
 abbrev pub Writable : List ℕ → Record → Type 0
 Writable s t = (m : ℕ) → TypedFault s t m → ⊥
 
--- then "12: output too short"
-pub data WriteFault (s : List ℕ) (t : Record) (l : List ℕ) (n : ℕ) : Type 0 where
-  typed : TypedFault s t n → WriteFault s t l n
-  short : Writable s t → length l < length (itsBlock s t) → n ≡ outputTooShort → WriteFault s t l n
+-- then 12, for the record as a block
+abbrev pub WriteFault : List ℕ → Record → List ℕ → ℕ → Type 0
+WriteFault s t l n = OutputFault (TypedFault s t) (Writable s t) (itsBlock s t) l n
 
 -- Rewriting: reader's refusals, then 12
 
--- a block's records in normal form, each in its place
+-- a block's records in normal form, in their order
 abbrev pub normalOf : Block → List ℕ
 normalOf (wrong n at) = []
 normalOf (all cat rs) = putBlock cat rs
 
--- the block is accepted
+-- the reader refuses the block; or accepts it
+abbrev pub Unread : List ℕ → ℕ → Type 0
+Unread s n = (at : ℕ) × BlockFault s n at
+
 abbrev pub Accepted : List ℕ → Type 0
 Accepted s = (len : ℕ) × (count : ℕ) × Full s len count
 
-pub data RewriteFault (s l : List ℕ) (n : ℕ) : Type 0 where
-  unread : (at : ℕ) → BlockFault s n at → RewriteFault s l n
-  short : Accepted s → length l < length (normalOf (blockOf s)) → n ≡ outputTooShort → RewriteFault s l n
+abbrev pub RewriteFault : List ℕ → List ℕ → ℕ → Type 0
+RewriteFault s l n = OutputFault (Unread s) (Accepted s) (normalOf (blockOf s)) l n
