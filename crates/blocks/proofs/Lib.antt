@@ -19,6 +19,8 @@ pub mod TypedLaws
 pub mod StepLaws
 pub mod MeaningLaws
 pub mod BoundaryLaws
+pub mod StoppedLaws
+pub mod StepFaults
 pub mod SameAnswers
 pub mod AtEnd
 pub mod RecordStarts

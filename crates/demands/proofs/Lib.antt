@@ -5,3 +5,9 @@ pub mod Demand2
 pub mod Demand3
 pub mod Unique
 pub mod Ties
+pub mod GivenBlocks
+pub mod GivenPosts
+pub mod GivenOutputs
+pub mod GivenItems
+pub mod GivenWriting
+pub mod GivenPages

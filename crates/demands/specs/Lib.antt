@@ -3,3 +3,6 @@ pub mod Contracts
 pub mod Claims
 pub mod Runs
 pub mod Verdicts
+pub mod Given
+pub mod GivenWriting
+pub mod GivenPages

@@ -81,7 +81,7 @@ same-octet x s o o' p q h j l =
 -- The record that a typed record means
 
 -- marks as a number are that number
-marks-flags : (n m : ℕ) → m < 2 ^ n → marksOf (flagsOf n m) ≡ m
+pub marks-flags : (n m : ℕ) → m < 2 ^ n → marksOf (flagsOf n m) ≡ m
 unfolding marksOf flagsOf
 marks-flags zero m l = omega arith
 marks-flags (suc n) m l =
