@@ -6,3 +6,4 @@ pub mod Verdicts
 pub mod Given
 pub mod GivenWriting
 pub mod GivenPages
+pub mod Rewritten
