@@ -20,9 +20,9 @@ use Rattle.layouts.specs.Categories.{Category, known, category}
 use Rattle.layouts.specs.declared.form.Form.{Form}
 use Rattle.layouts.specs.declared.form.Form.the-variants as form
 use Rattle.layouts.proofs.Answers.{got-refused, pick-no, through, OfGot}
-use Rattle.items.specs.Typed.{val, itemOf, traceOf}
+use Rattle.items.specs.Typed.{val, traceOf}
 use Rattle.items.specs.declared.typed.Item.{Item}
-use Rattle.items.proofs.Items.{typed-trace}
+use Rattle.items.proofs.Items.{itemOf, typed-trace}
 use Rattle.blocks.specs.Specification.{flags}
 use Rattle.blocks.specs.Marks.{marksOf, flagsOf}
 use Rattle.blocks.specs.Records.{Rec, formats, layoutOf}

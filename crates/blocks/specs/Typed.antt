@@ -10,7 +10,7 @@ use Rattle.layouts.specs.Offsets.{traceAt}
 use Rattle.layouts.specs.Layouts.{format, kindOf}
 use Rattle.layouts.specs.Ends.{kindEnd}
 use Rattle.layouts.specs.Tables.{layout}
-use Rattle.layouts.specs.Categories.{Category, category, layoutAt}
+use Rattle.layouts.specs.Categories.{Category, category, layoutAt, entriesForm}
 use Rattle.layouts.specs.declared.ends.End.{End}
 use Rattle.layouts.specs.declared.ends.End.the-variants.{At, Refused}
 use Rattle.layouts.specs.declared.form.Form.{Form}
@@ -43,7 +43,7 @@ typed number marks values place = record {
   configuration = configurationOf (values Form.Configuration);
   range = val (values Form.Range) 0 0;
   status = val (values Form.Status) 0 0;
-  entries = place (pick (eqb number 242) Form.Versions Form.Statistics) 0;
+  entries = place (entriesForm number) 0;
   expansion = place Form.Expansion 1;
   purpose = place Form.Purpose 1;
 }

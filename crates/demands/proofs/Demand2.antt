@@ -10,7 +10,7 @@ use Rattle.octets.specs.Choice.{odd}
 use Rattle.octets.specs.Numbers.{Octets, number}
 use Rattle.octets.specs.Refusals.{noSuch}
 use Rattle.layouts.specs.Formats.{got}
-use Rattle.layouts.specs.Categories.{Category, category, known}
+use Rattle.layouts.specs.Categories.{Category, category, known, entriesForm}
 use Rattle.layouts.proofs.Before.{SameBefore}
 use Rattle.blocks.specs.Headers.{headerOf}
 use Rattle.blocks.specs.Records.{Rec, layoutOf, putItems, recordOf}
@@ -32,7 +32,7 @@ use Rattle.blocks.proofs.BoundaryLaws.{visited, step-end}
 use Rattle.blocks.proofs.SameAnswers.{read-alike, block-alike, step-alike, entry-alike, read-after-len, block-after-len, step-after-len, entry-after-len}
 use Rattle.octets.specs.Outcomes.{puts}
 use Rattle.writing.specs.Written.{writeOf, rewriteOf}
-use Rattle.writing.specs.Same.{entriesForm, has, Same}
+use Rattle.writing.specs.Same.{has, Same}
 use Rattle.octets.specs.declared.output.Written.{Written}
 use Rattle.writing.proofs.RewriteTheorems.{rewrite-accepted, rewrite-reading, rewrite-again, rewrite-short, rewrite-same, rewrite-typed}
 use Rattle.writing.proofs.WriteTheorems.{write-normal, write-reading}

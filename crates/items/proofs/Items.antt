@@ -14,15 +14,35 @@ use Rattle.octets.specs.Refusals.{noCount, pastLast}
 use Rattle.layouts.specs.Groups.{values, Group}
 use Rattle.layouts.specs.Formats.{Format, done, stop, ask, Trace, got}
 use Rattle.layouts.specs.Offsets.{runAt, traceAt, extensionAt, groupsAt}
-use Rattle.layouts.specs.Layouts.{fx, octet, times, chain, counted, format, kindOf, firstGroup, firstOctets}
+use Rattle.layouts.specs.Layouts.{fx, octet, times, chain, counted, format, kindOf, firstGroup}
 use Rattle.layouts.specs.Tables.{station, configuration, status, period, counter, version, layout}
-use Rattle.items.specs.Typed.{val, itemOf, placed, givenTrace, traceOf}
+use Rattle.items.specs.Typed.{val, sourceOf, serviceOf, timeOf, sdpsOf, stationOf, configurationOf, placed, givenTrace, traceOf}
 use Rattle.layouts.proofs.Answers.{got-refused, pick-no, through}
 use Rattle.layouts.proofs.Windows.{run-trace}
-use Rattle.layouts.specs.declared.ends.Kind.{Kind}
 use Rattle.layouts.specs.declared.form.Form.{Form}
 use Rattle.layouts.specs.declared.form.Form.the-variants as form
+use Rattle.items.specs.declared.typed.Item.{Item}
 use Rattle.items.specs.declared.typed.Item.the-variants as item
+
+-- the item whose values are these; its entries or content, behind its first octet, start at an offset
+abbrev pub itemOf : Form → Trace → ℕ → Item
+itemOf form.Spare tr at = item.Absent
+itemOf form.Source tr at = item.Source (sourceOf tr)
+itemOf form.MessageType tr at = item.MessageType (val tr 0 0)
+itemOf form.Service tr at = item.Service (serviceOf tr)
+itemOf form.Identification tr at = item.Identification (val tr 0 0)
+itemOf form.Time tr at = item.Time (timeOf tr)
+itemOf form.Batch tr at = item.Batch (val tr 0 0)
+itemOf form.Sdps tr at = item.Sdps (sdpsOf tr)
+itemOf form.Report tr at = item.Report (val tr 0 0)
+itemOf form.Station tr at = item.Station (stationOf tr)
+itemOf form.Configuration tr at = item.Configuration (configurationOf tr)
+itemOf form.Range tr at = item.Range (val tr 0 0)
+itemOf form.Status tr at = item.Status (val tr 0 0)
+itemOf form.Statistics tr at = item.Statistics (record { at = at; count = val tr 0 0 })
+itemOf form.Versions tr at = item.Versions (record { at = at; count = val tr 0 0 })
+itemOf form.Expansion tr at = item.Expansion (record { at = at; count = val tr 0 0 - 1 })
+itemOf form.Purpose tr at = item.Purpose (record { at = at; count = val tr 0 0 - 1 })
 
 -- an octet as the code reads it
 pub one-octet : (s : List ℕ) (o x : ℕ) → x ≡ getD s (o + 0) 0 → x ≡ number 1 s o
@@ -34,13 +54,6 @@ unfolding number
 number-one s o = rw add-zero (omega arith)
 
 module _ (s : List ℕ) (at : ℕ) where
-  -- the number of the first group, as the kind has its octets
-  abbrev firstAt : Form → ℕ
-  firstAt f = number (firstOctets (kindOf (layout f))) s at
-
-  abbrev twoAt : Form → Trace
-  twoAt f = values (firstGroup (layout f) .parts) (firstAt f) ∷ values (period .parts) (extensionAt s at (kindOf (layout f)) (firstAt f)) ∷ []
-
   -- the period of an extension, by FX of the part before it
   extension : (o x : ℕ) → pick (odd x) (getD s o 0) 0 / 2 % 128 ≡ val (traceAt (pick (eqb (x / 1 % 2) 1) (chain pastLast period []) done) s o) 0 0
   unfolding traceAt chain values
@@ -50,37 +63,18 @@ module _ (s : List ℕ) (at : ℕ) where
       go true = rw number-one
       go false = refl
 
-  -- the two numbers that the code reads give the item that the format reads
-  item-read : (f : Form) (b : ℕ) → itemOf f (twoAt f) b ≡ itemOf f (traceAt (format (layout f)) s at) b
-  unfolding traceAt format chain counted values
-  item-read form.Spare b = refl
-  item-read form.Source b = refl
-  item-read form.MessageType b = refl
-  item-read form.Service b = refl
-  item-read form.Identification b = refl
-  item-read form.Time b = refl
-  item-read form.Batch b = refl
-  item-read form.Sdps b = refl
-  item-read form.Report b = refl
-  item-read form.Station b =
-      ap (λ (y : ℕ). item.Station (record { nogo = x 128; odp = x 64; oxt = x 32; msc = x 16; tsv = x 8; spo = x 4; rn = x 2; extended = x 1; gssp = record { 0 = y } })) (extension (at + 1) (number 1 s at))
-    where
-      x : ℕ → ℕ
-      x n = number 1 s at / n % 2
-  item-read form.Configuration b =
-      ap (λ (y : ℕ). item.Configuration (record { rp = record { 0 = number 2 s at / 256 % 256 }; sc = number 2 s at / 32 % 8; extended = number 2 s at / 1 % 2; ssrp = record { 0 = y } }))
-      (extension (at + 2) (number 2 s at))
-  item-read form.Range b = refl
-  item-read form.Status b = refl
-  item-read form.Statistics b = refl
-  item-read form.Versions b = refl
-  item-read form.Expansion b = refl
-  item-read form.Purpose b = refl
+  -- the values of the number of an item's first group, and of the extension behind it
+  abbrev two : Form → ℕ → Trace
+  two f x = values (firstGroup (layout f) .parts) x ∷ values (period .parts) (extensionAt s at (kindOf (layout f)) x) ∷ []
 
-  -- the same, of the numbers as the code comes by them
-  pub item-code : (f : Form) (k : Kind) (size first second b : ℕ) → k ≡ kindOf (layout f) → size ≡ firstOctets k → first ≡ number size s at → second ≡ extensionAt s at k first
-      → itemOf f (values (firstGroup (layout f) .parts) first ∷ values (period .parts) second ∷ []) b ≡ itemOf f (traceAt (format (layout f)) s at) b
-  item-code f k size first second b hk hs hf he = rw (he, hf, hs, hk) (item-read f b)
+  -- the two numbers that the code reads give what the format reads
+  pub station-read : stationOf (two form.Station (number 1 s at)) ≡ stationOf (traceAt (format (layout form.Station)) s at)
+  unfolding traceAt format chain values
+  station-read = rw (extension (at + 1) (number 1 s at))
+
+  pub configuration-read : configurationOf (two form.Configuration (number 2 s at)) ≡ configurationOf (traceAt (format (layout form.Configuration)) s at)
+  unfolding traceAt format chain values
+  configuration-read = rw (extension (at + 2) (number 2 s at))
 
 -- the trace of n groups
 pub times-trace : (n : ℕ) (g : Group) (s : List ℕ) (at : ℕ) → traceAt (times n g) s at ≡ groupsAt n g s at

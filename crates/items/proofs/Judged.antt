@@ -7,7 +7,7 @@ use native.Mathlib.Nat.{add-sub-cancel, suc-mul, zero-mul, sub-zero}
 use native.Mathlib.Omega.{arith}
 use lib.Dec.{ltb, leb, eqb}
 use lib.ListN.{length, getD}
-use borrow.Author.Tests.{ltb-false, leb-true, leb-false, eqb-false, lt-ltb, le-ltb, lt-leb, eq-eqb, ne-eqb}
+use borrow.Author.Tests.{ltb-false, leb-true, leb-false, eqb-false, lt-ltb, le-ltb, lt-leb, ne-eqb}
 use Rattle.octets.specs.Choice.{pick}
 use Rattle.octets.specs.Numbers.{number}
 use Rattle.octets.specs.Refusals.{passesEnd, noCount, outOfRange}
@@ -16,10 +16,10 @@ use Rattle.layouts.specs.Formats.{Format, stop, Trace, fitsIn, got}
 use Rattle.layouts.specs.Offsets.{runAt, traceAt, groupsAt}
 use Rattle.layouts.specs.Layouts.{octet, times, counted, format, entryOctets}
 use Rattle.layouts.specs.Tables.{counter, version, layout}
-use Rattle.items.specs.Typed.{val, itemOf, placed, givenTrace, givenRefusal, given, placeOf, traceOf, itemRefusal, itemOctets, sizeOf, fieldOf}
+use Rattle.items.specs.Typed.{val, placed, givenTrace, givenRefusal, given, placeOf, traceOf, itemRefusal, itemOctets, sizeOf, listedSize, sizeListed, fieldOf}
 use Rattle.items.proofs.Entries.{entries-free}
 use Rattle.layouts.proofs.Windows.{run-trace}
-use Rattle.items.proofs.Items.{run-next, run-enough, run-past, typed-trace}
+use Rattle.items.proofs.Items.{itemOf, run-next, run-enough, run-past, typed-trace}
 use Rattle.layouts.specs.declared.category.Field.{Field}
 use Rattle.layouts.specs.declared.ends.Kind.{Kind}
 use Rattle.layouts.specs.declared.ends.Kind.the-variants.{Spare, Fixed, Extended, Repeated, Explicit}
@@ -215,8 +215,11 @@ module _ (s : List ℕ) where
 
 -- what the writer is told of an item
 module _ (s : List ℕ) (i : Item) (n : ℕ) (h : n ≡ itemRefusal s i) where
-  pub size-refused : (n ≡ 0 → ⊥) → Size.Refused n ≡ sizeOf s i
-  size-refused some = rw (ne-eqb (itemRefusal s i) 0 (λ z. some (h ∙ z)), h)
+  abbrev Told : Size → Type 0
+  Told r = (r ≡ sizeOf s i) × (listedSize r ≡ sizeListed s i)
 
-  pub size-octets : n ≡ 0 → (r : ℕ) → r ≡ length (itemOctets s i) → Size.Octets r ≡ sizeOf s i
-  size-octets z r e = rw (eq-eqb (itemRefusal s i) 0 (sym h ∙ z), e)
+  pub size-refused : (n ≡ 0 → ⊥) → Told (Size.Refused n)
+  size-refused some = rw (h, ne-eqb (itemRefusal s i) 0 (λ z. some (h ∙ z))) (refl, refl)
+
+  pub size-octets : n ≡ 0 → (r : ℕ) → r ≡ length (itemOctets s i) → Told (Size.Octets r)
+  size-octets z r e = let none = sym h ∙ z in rw (e, none) (refl, refl)

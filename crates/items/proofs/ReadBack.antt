@@ -11,8 +11,9 @@ use Rattle.octets.specs.Choice.{pick, when}
 use Rattle.octets.specs.Numbers.{laid}
 use Rattle.layouts.specs.Formats.{got, Format, fitsIn}
 use Rattle.layouts.specs.Offsets.{itemAt, traceAt}
-use Rattle.items.specs.Typed.{val, itemOf, formOf, settled, Given, exact, placed, given, traceOf, givenTrace, givenRefusal, itemFormat, itemRefusal, itemOctets}
+use Rattle.items.specs.Typed.{val, formOf, settled, Given, exact, placed, given, traceOf, givenTrace, givenRefusal, itemFormat, itemRefusal, itemOctets}
 use Rattle.layouts.proofs.Windows.{run-trace, run-read-back, item-read-back}
+use Rattle.items.proofs.Items.{itemOf}
 use Rattle.items.specs.declared.typed.Item.{Item}
 use Rattle.items.specs.declared.typed.Item.the-variants as item
 

@@ -6,6 +6,7 @@ use lib.Dec.{leb, ltb, eqb}
 use lib.ListN.{length, getD}
 use Rattle.octets.specs.Choice.{pick, when}
 use Rattle.octets.specs.Numbers.{number, octets}
+use Rattle.octets.specs.Outcomes.{WrittenListed}
 use Rattle.octets.specs.Refusals.{passesEnd, noCount, outOfRange}
 use Rattle.layouts.specs.Groups.{values, merge, Group}
 use Rattle.layouts.specs.Formats.{Format, Trace, fitsIn, put}
@@ -14,6 +15,7 @@ use Rattle.layouts.specs.Layouts.{octet, times, format, kindOf}
 use Rattle.layouts.specs.Tables.{period, counter, version, layout}
 use Rattle.layouts.specs.declared.category.Field.{Field}
 use Rattle.items.specs.declared.item.Size.{Size}
+use Rattle.items.specs.declared.item.Size.the-variants as size
 use Rattle.layouts.specs.declared.form.Form.{Form}
 use Rattle.layouts.specs.declared.form.Form.the-variants as form
 use Rattle.items.specs.declared.typed.Item.{Item}
@@ -65,26 +67,6 @@ configurationOf tr = record {
   extended = val tr 0 2;
   ssrp = record { 0 = val tr 1 0 };
 }
-
--- the item whose values are these; its entries or content, behind its first octet, start at an offset
-abbrev pub itemOf : Form → Trace → ℕ → Item
-itemOf form.Spare tr at = item.Absent
-itemOf form.Source tr at = item.Source (sourceOf tr)
-itemOf form.MessageType tr at = item.MessageType (val tr 0 0)
-itemOf form.Service tr at = item.Service (serviceOf tr)
-itemOf form.Identification tr at = item.Identification (val tr 0 0)
-itemOf form.Time tr at = item.Time (timeOf tr)
-itemOf form.Batch tr at = item.Batch (val tr 0 0)
-itemOf form.Sdps tr at = item.Sdps (sdpsOf tr)
-itemOf form.Report tr at = item.Report (val tr 0 0)
-itemOf form.Station tr at = item.Station (stationOf tr)
-itemOf form.Configuration tr at = item.Configuration (configurationOf tr)
-itemOf form.Range tr at = item.Range (val tr 0 0)
-itemOf form.Status tr at = item.Status (val tr 0 0)
-itemOf form.Statistics tr at = item.Statistics (record { at = at; count = val tr 0 0 })
-itemOf form.Versions tr at = item.Versions (record { at = at; count = val tr 0 0 })
-itemOf form.Expansion tr at = item.Expansion (record { at = at; count = val tr 0 0 - 1 })
-itemOf form.Purpose tr at = item.Purpose (record { at = at; count = val tr 0 0 - 1 })
 
 abbrev pub formOf : Item → Form
 formOf item.Absent = form.Spare
@@ -230,6 +212,15 @@ itemOctets s i = put (itemFormat i) (traceOf s i) []
 -- what the writer is told of an item: how many octets it has, or its refusal
 abbrev pub sizeOf : List ℕ → Item → Size
 sizeOf s i = pick (eqb (itemRefusal s i) 0) (Size.Octets (length (itemOctets s i))) (Size.Refused (itemRefusal s i))
+
+-- The answer's cases, with document 01's number and values
+
+abbrev pub listedSize : Size → WrittenListed
+listedSize (size.Refused n) = record { number = n; length = 0 }
+listedSize (size.Octets k) = record { number = 0; length = k }
+
+abbrev pub sizeListed : List ℕ → Item → WrittenListed
+sizeListed s i = record { number = itemRefusal s i; length = pick (eqb (itemRefusal s i) 0) (length (itemOctets s i)) 0 }
 
 -- an entry of 23/120, of its values
 abbrev pub counterOf : List ℕ → Counter

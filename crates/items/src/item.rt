@@ -14,7 +14,7 @@ ghost use Rattle.layouts.specs.Offsets.{itemAt, traceAt, extensionAt, groupsAt}
 ghost use Rattle.layouts.specs.Layouts.{Layout, octet, times, format, kindOf, firstGroup, firstOctets, entryOctets, entryGroup};
 ghost use Rattle.layouts.specs.Ends.{endOf, kindEnd};
 ghost use Rattle.layouts.specs.Tables.{time, period, counter, version, layout};
-ghost use Rattle.items.specs.Typed.{fieldOf, countedOctets, itemFormat, given, exactFits, itemRefusal, itemOctets, sizeOf, counterOf, versionOf, val, sourceOf, serviceOf, timeOf, sdpsOf, stationOf, configurationOf, placeAt};
+ghost use Rattle.items.specs.Typed.{fieldOf, countedOctets, itemFormat, given, exactFits, itemRefusal, itemOctets, sizeOf, listedSize, sizeListed, counterOf, versionOf, val, sourceOf, serviceOf, timeOf, sdpsOf, stationOf, configurationOf, placeAt};
 use crate::typed::Configuration;
 use crate::typed::Counter;
 use crate::typed::Item;
@@ -239,7 +239,7 @@ fn octets_of(item: Item, field: Field, source: &[u8]) -> usize
 // How many octets an item has when written, or the number that refuses it. Only for the next layer: the field is the item's.
 pub fn judge(item: Item, field: Field, source: &[u8]) -> Size
     requires { ⌜ field ≡ fieldOf item ⌝ }
-    ensures { λ r. ⌜ r ≡ sizeOf (now (source .entry)) item ⌝ }
+    ensures { λ r. ⌜ (r ≡ sizeOf (now (source .entry)) item) × (listedSize r ≡ sizeListed (now (source .entry)) item) ⌝ }
 {
     let n = item_refusal(item, field, source);
     if n != refusal::ACCEPTED {

@@ -16,11 +16,12 @@ use Rattle.layouts.specs.Formats.{got, Trace}
 use Rattle.layouts.specs.Offsets.{groupsAt}
 use Rattle.layouts.specs.Layouts.{octet}
 use Rattle.layouts.specs.Tables.{counter, version}
-use Rattle.layouts.specs.Categories.{known, category}
+use Rattle.layouts.specs.Categories.{known, category, entriesForm}
 use Rattle.layouts.specs.declared.form.Form.{Form}
 use Rattle.layouts.specs.declared.form.Form.the-variants as form
-use Rattle.items.specs.Typed.{itemOf, settled, placed, givenTrace, traceOf}
+use Rattle.items.specs.Typed.{settled, placed, givenTrace, traceOf}
 use Rattle.items.specs.declared.typed.Place.{Place}
+use Rattle.items.proofs.Items.{itemOf}
 use Rattle.items.proofs.ReadBack.{typed-back}
 use Rattle.blocks.specs.Specification.{flags}
 use Rattle.blocks.specs.Marks.{marksOf, flagsOf}
@@ -46,7 +47,7 @@ use Rattle.blocks.proofs.BoundaryLaws.{read-filled, step-read}
 use Rattle.blocks.proofs.StepLaws.{entry-taken}
 use Rattle.octets.specs.Outcomes.{puts}
 use Rattle.writing.specs.Written.{writeOf}
-use Rattle.writing.specs.Same.{has, entriesForm, otherForm, Same}
+use Rattle.writing.specs.Same.{has, otherForm, Same}
 use Rattle.writing.proofs.MarksWritten.{flags-sevens, by-fields}
 use Rattle.writing.proofs.ItemsWritten.{form-in}
 use Rattle.writing.proofs.RecordWritten.{Fine, fine}

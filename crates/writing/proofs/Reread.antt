@@ -17,7 +17,8 @@ use Rattle.layouts.specs.Tables.{layout}
 use Rattle.layouts.specs.Categories.{Category, known, category}
 use Rattle.layouts.specs.declared.form.Form.{Form}
 use Rattle.layouts.proofs.Answers.{pick-yes, through}
-use Rattle.items.specs.Typed.{itemOf, itemRefusal}
+use Rattle.items.specs.Typed.{itemRefusal}
+use Rattle.items.proofs.Items.{itemOf}
 use Rattle.items.proofs.Judged.{read-refusal}
 use Rattle.blocks.specs.Specification.{zeros, flags}
 use Rattle.blocks.specs.Marks.{marksOf}

@@ -18,11 +18,7 @@ use Rattle.blocks.specs.declared.record.Record.{Record}
 abbrev pub has : Record → Form → Bool
 has t f = getD (false ∷ flagsOf 32 (t .marks)) (fieldFor (category (t .category) .fields) f) false
 
--- entries have one form in a category
-abbrev pub entriesForm : ℕ → Form
-entriesForm number = pick (eqb number 242) Form.Versions Form.Statistics
-
--- and those of the other form are none of its items
+-- entries have one form in a category (`entriesForm`), and those of the other form are none of its items
 abbrev pub otherForm : ℕ → Form
 otherForm number = pick (eqb number 242) Form.Statistics Form.Versions
 

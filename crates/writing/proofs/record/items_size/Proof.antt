@@ -22,7 +22,7 @@ returns c =
     let b = j .before .before .before .before in
     let l = b .before .before in
     field-refused _ _ _ (l .before .last-field .ensures) _ (b .before .loop-test .taken) _ (b .is-marked .ensures) (j .before .before .before .if1 .taken) _ _
-    (j .before .before .field-of .ensures) (j .before .item-in .ensures) _ (l .loop .inv) _ (j .judge .ensures) _ (c .before .size .given .1)
+    (j .before .before .field-of .ensures) (j .before .item-in .ensures) _ (l .loop .inv) _ (j .judge .ensures .0) _ (c .before .size .given .1)
 
 add-total : tie.Need-add-total Inv-loop μ-loop
 add-total c =
@@ -31,7 +31,7 @@ add-total c =
     let l = b .before .before in
     let w =
     field-counted _ _ _ (l .before .last-field .ensures) _ (b .before .loop-test .taken) _ (b .is-marked .ensures) (j .before .before .before .if1 .taken) _ _
-    (j .before .before .field-of .ensures) (j .before .item-in .ensures) _ (l .loop .inv) _ (j .judge .ensures) _ (c .before .size2 .given .1)
+    (j .before .before .field-of .ensures) (j .before .item-in .ensures) _ (l .loop .inv) _ (j .judge .ensures .0) _ (c .before .size2 .given .1)
     in
     omega arith
 
@@ -42,7 +42,7 @@ loop-again c =
     ⊎-elim
     (λ w. rw (w .7)
     (field-counted _ _ _ (l .before .last-field .ensures) _ (b .before .loop-test .taken) _ (b .is-marked .ensures) (w .0 .taken) _ _
-    (w .1 .ensures) (w .2 .ensures) _ (l .loop .inv) _ (w .3 .ensures) _ (w .5 .given .1)))
+    (w .1 .ensures) (w .2 .ensures) _ (l .loop .inv) _ (w .3 .ensures .0) _ (w .5 .given .1)))
     (λ w. rw (w .1)
     (field-uncounted _ _ _ (l .before .last-field .ensures) _ (b .before .loop-test .taken) _ (b .is-marked .ensures) _ (l .loop .inv) (w .0 .left)))
     (c .if1 .came)
