@@ -27,13 +27,13 @@ use Rattle.blocks.specs.Specification.{flags}
 use Rattle.blocks.specs.Marks.{marksOf, flagsOf}
 use Rattle.blocks.specs.Records.{Rec, formats, layoutOf}
 use Rattle.blocks.specs.Offsets.{specsAt, itemsAt, recordAt}
-use Rattle.blocks.specs.Typed.{typed, fieldFor, placeIn, valuesFor, startFor, typedRec}
+use Rattle.blocks.specs.Typed.{typed, fieldFor, placeIn, startIn, valuesFor, startFor, typedRec}
 use Rattle.blocks.specs.Steps.{itemsFrom}
 use Rattle.blocks.specs.Meaning.{itemIn, sevens, valuesOf, recOf}
 use Rattle.blocks.specs.declared.record.Record.{Record}
 use Rattle.blocks.proofs.MarksLaws.{flags-long, flags-32, marks-one, marks-cons, specs-marked}
 use Rattle.blocks.proofs.WalkSteps.{by-known, Table, table, item-run}
-use Rattle.blocks.proofs.ItemStarts.{startIn, formats-at, items-there}
+use Rattle.blocks.proofs.ItemStarts.{formats-at, items-there}
 use Rattle.blocks.proofs.ReadSteps.{record-parts}
 
 -- The marks
@@ -268,11 +268,11 @@ module _ (s : List ℕ) (len : ℕ) (c : Category) (w : Forms c) (gs : List ℕ)
   r = record { marks = gs; items = trs }
 
   abbrev t : Record
-  t = typedRec c r p
+  t = typedRec s len c r p
 
   -- where the item of field i + 1 starts
   abbrev start : ℕ → ℕ
-  start i = startIn (layoutOf c gs) trs p i
+  start i = startIn s len (layoutOf c gs) p i
 
   -- a form that has a field is not the one of entries that the category does not have
   not-other : (f : Form) (i : ℕ) → fieldFor (c .fields) f ≡ suc i → f ≡ pick (eqb (c .number) 242) Form.Statistics Form.Versions → ⊥
@@ -290,7 +290,7 @@ module _ (s : List ℕ) (len : ℕ) (c : Category) (w : Forms c) (gs : List ℕ)
   unfolding typedRec
   item-typed f i q e u h =
       let (v, tr, is) = trace-some s len (layout f) (start i) q (getD trs i []) u h in
-      made-item (c .number) (marksOf (flags gs)) (valuesFor c r p) (startFor c r p) f (not-other f i e) ∙ rw (e, one-less i, is)
+      made-item (c .number) (marksOf (flags gs)) (valuesFor c r) (startFor s len c r p) f (not-other f i e) ∙ rw (e, one-less i, is)
 
   -- so it is the item that was read at the field
   field-item : (f : Form) (i q : ℕ) → owned (c .fields) f i ≡ true
@@ -351,7 +351,7 @@ rec-of s t c gs trs hc hs hv = rw (hc, hs, hv)
 module _ (s : List ℕ) (len n : ℕ) (c : Category) (w : Forms c) (t : Table n c) where
   rec-means : (gs : List ℕ) (trs : List Trace) (p q : ℕ) → Sevens gs → length gs ≡ c .most
       → itemsAt s len (layoutOf c gs) p ≡ got trs q
-      → recOf s (typedRec c (record { marks = gs; items = trs }) p) ≡ record { marks = gs; items = trs }
+      → recOf s (typedRec s len c (record { marks = gs; items = trs }) p) ≡ record { marks = gs; items = trs }
   unfolding typedRec
   rec-means gs trs p q low long h =
       let fields : length (c .fields) ≤ length (flags gs) = omega (arith, flags-long gs, t .long) in
@@ -359,7 +359,7 @@ module _ (s : List ℕ) (len n : ℕ) (c : Category) (w : Forms c) (t : Table n 
       (rw (flags-32 gs (omega (arith, t .few)), values-more s _ (flags gs) (32 - 7 * length gs) (c .fields) fields)
       (values-mean s len c w gs trs p q h))
 
-  means-at : Octets s → (at q : ℕ) (r : Rec) → recordAt s len c at ≡ got r q → recOf s (typedRec c r (itemsFrom s len c at)) ≡ r
+  means-at : Octets s → (at q : ℕ) (r : Rec) → recordAt s len c at ≡ got r q → recOf s (typedRec s len c r (itemsFrom s len c at)) ≡ r
   means-at o at q r h =
       let (p, e, e', z, y) = record-parts s len c at q r h in
       let low : Sevens (r .marks) = subst (OfGot (λ gs q. Sevens gs)) e (specs-sevens s len o (c .most - 1) at) in
@@ -369,5 +369,5 @@ module _ (s : List ℕ) (len n : ℕ) (c : Category) (w : Forms c) (t : Table n 
 module _ (s : List ℕ) (len number at : ℕ) (o : Octets s) (k : known number ≡ true) where
   -- A typed record that was made of a record read means that record.
   pub means-read : (r : Rec) (q : ℕ) → recordAt s len (category number) at ≡ got r q
-      → recOf s (typedRec (category number) r (itemsFrom s len (category number) at)) ≡ r
+      → recOf s (typedRec s len (category number) r (itemsFrom s len (category number) at)) ≡ r
   means-read r q h = means-at s len number (category number) (forms number k) (table number k) o at q r h

@@ -68,7 +68,7 @@ module _ (s : List ℕ) (len number at : ℕ) (more : at < len) where
   take-refused n start e = go (recordAt s len (category number) at) (is-one _ e)
     where
       go : (a : Answer ℕ Rec) → Walked.Refused n start ≡ one a
-          → Step.Refused n start ≡ takenBy Step.Refused (λ t q. Step.Taken t (record { at = q })) (category number) at (itemsFrom s len (category number) at) a
+          → Step.Refused n start ≡ takenBy Step.Refused (λ t q. Step.Taken t (record { at = q })) s len (category number) at a
       go (refused m) h = let a : n ≡ m = cc in let b : start ≡ at = cc in rw (a, b)
       go (got r q) h = absurd (walked-on (run-none s len (category number) q 0 1 refl ∙ sym h))
 
@@ -80,7 +80,7 @@ module _ (s : List ℕ) (len number at : ℕ) (more : at < len) where
     take-taken q c e t h = go (recordAt s len (category number) at) refl (is-one _ e)
       where
         go : (a : Answer ℕ Rec) → recordAt s len (category number) at ≡ a → Walked.To q c ≡ one a
-            → Step.Taken t (record { at = q }) ≡ takenBy Step.Refused (λ t q. Step.Taken t (record { at = q })) (category number) at (itemsFrom s len (category number) at) a
+            → Step.Taken t (record { at = q }) ≡ takenBy Step.Refused (λ t q. Step.Taken t (record { at = q })) s len (category number) at a
         go (refused m) f g = absurd (walked-on g)
         go (got r p) f g =
             let same : Walked.To q c ≡ Walked.To p 1 = g ∙ sym (run-none s len (category number) p 0 1 refl) in
@@ -115,10 +115,10 @@ module _ (s : List ℕ) (len number at : ℕ) where
   pub record Taking (t : Record) (next : ℕ) : Type 0 where
     pub r : Rec
     pub is : recordAt s len (category number) at ≡ got r next
-    pub same : t ≡ typedRec (category number) r (itemsFrom s len (category number) at)
+    pub same : t ≡ typedRec s len (category number) r (itemsFrom s len (category number) at)
 
   abbrev by : Answer ℕ Rec → Step
-  by = takenBy Step.Refused (λ t q. Step.Taken t (record { at = q })) (category number) at (itemsFrom s len (category number) at)
+  by = takenBy Step.Refused (λ t q. Step.Taken t (record { at = q })) s len (category number) at
 
   pub take-took : (t : Record) (c : Cursor) → takeOf s len number at ≡ Step.Taken t c → Taking t (c .at)
   unfolding takeOf takeBy

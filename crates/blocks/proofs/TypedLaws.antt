@@ -29,15 +29,15 @@ use Rattle.items.proofs.Judged.{counted-read}
 use Rattle.items.proofs.Items.{times-trace}
 use Rattle.blocks.specs.Specification.{flags}
 use Rattle.blocks.specs.Marks.{marksOf}
-use Rattle.blocks.specs.Records.{Rec, layoutOf, putItems}
+use Rattle.blocks.specs.Records.{Rec, layoutOf}
 use Rattle.blocks.specs.Offsets.{specsAt, itemsAt, recordAt}
-use Rattle.blocks.specs.Typed.{typed, turn, further, fieldFor, placeIn, valuesFor, startFor, typedRec, endFrom, marked, behind, startOf, startBy, typedOf}
+use Rattle.blocks.specs.Typed.{typed, turn, further, fieldFor, placeIn, startIn, valuesFor, startFor, typedRec, endFrom, marked, behind, startOf, startBy, typedOf}
 use Rattle.blocks.specs.Steps.{itemsFrom, typedBehind, entryGroupOf, entryValues}
 use Rattle.blocks.specs.declared.record.Record.{Record}
 use Rattle.blocks.proofs.AtEnd.{end-value, end-place}
 use Rattle.blocks.proofs.MarksLaws.{flags-32, flags-long, mark-more, specs-marked}
 use Rattle.blocks.proofs.WalkSteps.{item-run, table}
-use Rattle.blocks.proofs.ItemStarts.{startIn, formats-at, formats-few, items-there, items-end}
+use Rattle.blocks.proofs.ItemStarts.{first-start, formats-at, formats-few, items-there, items-end}
 use Rattle.blocks.proofs.ReadSteps.{record-parts}
 
 -- The field of a form has that form
@@ -149,7 +149,7 @@ module _ (s : List ℕ) (len : ℕ) (c : Category) (gs : List ℕ) (p : ℕ) (tr
 
   -- where the item of field n + 1 starts
   abbrev start : ℕ → ℕ
-  start n = startIn (layoutOf c gs) trs p n
+  start n = startIn s len (layoutOf c gs) p n
 
   -- the marks as a number are the marks that were read
   pub mark-is : (n : ℕ) → marked s len c marks p (suc n) ≡ getD (flags gs) n false
@@ -177,8 +177,7 @@ module _ (s : List ℕ) (len : ℕ) (c : Category) (gs : List ℕ) (p : ℕ) (tr
 
   -- so no item starts past the block's end
   start-within : (n : ℕ) → start n ≤ len
-  unfolding putItems
-  start-within zero = omega arith
+  start-within zero = rw (first-start s len (layoutOf c gs) p) inside
   start-within (suc n) =
       run-within s len (getD (layoutOf c gs) n done) (start n) (getD trs n []) (start (suc n)) (start-within n) (there n) .1
 
@@ -188,8 +187,8 @@ module _ (s : List ℕ) (len : ℕ) (c : Category) (gs : List ℕ) (p : ℕ) (tr
 
   -- the fields' ends by their kinds are where the items were read
   behind-start : (n : ℕ) → behind s len c marks p n ≡ start n
-  unfolding behind putItems
-  behind-start zero = sym (add-zero p)
+  unfolding behind
+  behind-start zero = sym (first-start s len (layoutOf c gs) p)
   behind-start (suc n) = rw (mark-is n, behind-start n) (go (getD (flags gs) n false) (stands n))
     where
       go : (b : Bool) → Stands n b → pick b (endFrom (start n) (kindEnd s len (kindOf (layoutAt c (suc n))) (start n))) (start n) ≡ start (suc n)
@@ -249,7 +248,7 @@ module _ (s : List ℕ) (len number at : ℕ) (o : Octets s) (fit : len ≤ leng
     items : (f : Form)
         → Held s len (format (layout f))
         (startBy s (category number) (startOf s len (category number) (marksOf (flags (r .marks))) behind) f)
-        (valuesFor (category number) r behind f) (startFor (category number) r behind f)
+        (valuesFor (category number) r f) (startFor s len (category number) r behind f)
 
   taken : (r : Rec) (q : ℕ) → recordAt s len (category number) at ≡ got r q → Taken r
   taken r q h =
@@ -266,14 +265,14 @@ module _ (s : List ℕ) (len number at : ℕ) (o : Octets s) (fit : len ≤ leng
 
   -- The typed record that is made by octets is the record that was read.
   pub typed-good : (r : Rec) (q : ℕ) → recordAt s len (category number) at ≡ got r q
-      → typedBehind s len number at (specsAt s len (category number .most - 1) at) ≡ typedRec (category number) r (itemsFrom s len (category number) at)
+      → typedBehind s len number at (specsAt s len (category number .most - 1) at) ≡ typedRec s len (category number) r (itemsFrom s len (category number) at)
   unfolding typedOf typedRec
   typed-good r q h =
       let c = category number in
       let w = taken r q h in
       let start : Form → ℕ = startBy s c (startOf s len c (marksOf (flags (r .marks))) (w .behind)) in
-      let v : Form → Trace = valuesFor c r (w .behind) in
-      let from : Form → ℕ = startFor c r (w .behind) in
+      let v : Form → Trace = valuesFor c r in
+      let from : Form → ℕ = startFor s len c r (w .behind) in
       let entries = pick (eqb (c .number) 242) Form.Versions Form.Statistics in
       let place : (f : Form) (e : ℕ) (g : Group) → format (layout f) ≡ counted e g → placeAt s (start f) e ≡ placeIn (from f) e (v f)
       = λ f e g is. held-place s len (format (layout f)) e g (start f) (v f) (from f) is (w .items f) e in
@@ -287,7 +286,7 @@ module _ (s : List ℕ) (len number at : ℕ) (o : Octets s) (fit : len ≤ leng
 
   -- The entries of a record that was read lie within the block.
   pub entries-within : (r : Rec) (q : ℕ) → recordAt s len (category number) at ≡ got r q
-      → (t : Record) → t ≡ typedRec (category number) r (itemsFrom s len (category number) at)
+      → (t : Record) → t ≡ typedRec s len (category number) r (itemsFrom s len (category number) at)
       → t .entries .at + t .entries .count * entryGroupOf (t .category) .wide ≤ len
   unfolding typedRec
   entries-within r q h t is =
@@ -296,21 +295,21 @@ module _ (s : List ℕ) (len number at : ℕ) (o : Octets s) (fit : len ≤ leng
       let entries = pick (eqb (c .number) 242) Form.Versions Form.Statistics in
       rw (is, w .spec)
       (held-within s len fit (format (layout entries)) (entryGroupOf (c .number))
-      (startBy s c (startOf s len c (marksOf (flags (r .marks))) (w .behind)) entries) (valuesFor c r (w .behind) entries) (startFor c r (w .behind) entries)
+      (startBy s c (startOf s len c (marksOf (flags (r .marks))) (w .behind)) entries) (valuesFor c r entries) (startFor s len c r (w .behind) entries)
       (entries-counted (eqb (c .number) 242)) (w .items entries))
 
   -- Entry n of a record that was read is the one that its item's values have.
   pub entry-values : (r : Rec) (q : ℕ) → recordAt s len (category number) at ≡ got r q
-      → (t : Record) → t ≡ typedRec (category number) r (itemsFrom s len (category number) at) → (n : ℕ) → n < t .entries .count
+      → (t : Record) → t ≡ typedRec s len (category number) r (itemsFrom s len (category number) at) → (n : ℕ) → n < t .entries .count
       → entryValues s (entryGroupOf (t .category)) (t .entries .at) n
-      ≡ getD (valuesFor (category number) r (itemsFrom s len (category number) at) (pick (eqb (category number .number) 242) Form.Versions Form.Statistics)) (suc n) []
+      ≡ getD (valuesFor (category number) r (pick (eqb (category number .number) 242) Form.Versions Form.Statistics)) (suc n) []
   unfolding typedRec
   entry-values r q h t is n l =
       let c = category number in
       let w = taken r q h in
       let entries = pick (eqb (c .number) 242) Form.Versions Form.Statistics in
-      let l' : n < placeIn (startFor c r (w .behind) entries) 0 (valuesFor c r (w .behind) entries) .count = rw (is, w .spec) at l in
+      let l' : n < placeIn (startFor s len c r (w .behind) entries) 0 (valuesFor c r entries) .count = rw (is, w .spec) at l in
       rw (is, w .spec)
       (held-entry s len fit (format (layout entries)) (entryGroupOf (c .number))
-      (startBy s c (startOf s len c (marksOf (flags (r .marks))) (w .behind)) entries) (valuesFor c r (w .behind) entries) (startFor c r (w .behind) entries)
+      (startBy s c (startOf s len c (marksOf (flags (r .marks))) (w .behind)) entries) (valuesFor c r entries) (startFor s len c r (w .behind) entries)
       (entries-counted (eqb (c .number) 242)) (w .items entries) n l')

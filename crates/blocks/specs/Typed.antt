@@ -3,10 +3,10 @@ use mathlib.Core.Bool.{Bool, false}
 use mathlib.Core.List.{List, [], _∷_}
 use Prim.Native.Nat.{ℕ, zero, suc, _+_, _-_}
 use lib.Dec.{eqb}
-use lib.ListN.{length, getD, take}
+use lib.ListN.{length, getD}
 use Rattle.octets.specs.Choice.{pick}
-use Rattle.layouts.specs.Formats.{Trace}
-use Rattle.layouts.specs.Offsets.{traceAt}
+use Rattle.layouts.specs.Formats.{Answer, refused, got, Format, Trace}
+use Rattle.layouts.specs.Offsets.{runAt, traceAt}
 use Rattle.layouts.specs.Layouts.{format, kindOf}
 use Rattle.layouts.specs.Ends.{kindEnd}
 use Rattle.layouts.specs.Tables.{layout}
@@ -19,7 +19,7 @@ use Rattle.items.specs.Typed.{val, sourceOf, serviceOf, timeOf, sdpsOf, station
 use Rattle.items.specs.declared.typed.Place.{Place}
 use Rattle.blocks.specs.Specification.{flags}
 use Rattle.blocks.specs.Marks.{marksOf, flagsOf}
-use Rattle.blocks.specs.Records.{Rec, layoutOf, putItems}
+use Rattle.blocks.specs.Records.{Rec, layoutOf}
 use Rattle.blocks.specs.declared.record.Record.{Record}
 
 abbrev pub nowhere : Place
@@ -89,17 +89,28 @@ abbrev pub placeIn : ℕ → ℕ → Trace → Place
 placeIn at e [] = nowhere
 placeIn at e (v ∷ tr) = record { at = at + 1; count = getD v 0 0 - e }
 
-module _ (c : Category) (r : Rec) (at : ℕ) where
-  -- the values of the item of a form
-  abbrev pub valuesFor : Form → Trace
-  valuesFor f = getD ([] ∷ r .items) (fieldFor (c .fields) f) []
+-- where an answer ended; at the start where it was refused
+abbrev pub stopOf : {A : Type 0} → ℕ → Answer ℕ A → ℕ
+stopOf at (refused n) = at
+stopOf at (got a q) = q
 
+-- of items one after the other, where the one starts that has n before it: where these end
+unfoldable pub startIn : List ℕ → ℕ → List Format → ℕ → ℕ → ℕ
+startIn s len fs at zero = at
+startIn s len [] at (suc n) = at
+startIn s len (f ∷ fs) at (suc n) = startIn s len fs (stopOf at (runAt s len f at)) n
+
+-- the values of the item of a form
+abbrev pub valuesFor : Category → Rec → Form → Trace
+valuesFor c r f = getD ([] ∷ r .items) (fieldFor (c .fields) f) []
+
+module _ (s : List ℕ) (len : ℕ) (c : Category) (r : Rec) (at : ℕ) where
   -- where it starts: behind the items of the fields before it
   abbrev pub startFor : Form → ℕ
-  startFor f = at + length (putItems (take (fieldFor (c .fields) f - 1) (layoutOf c (r .marks))) (r .items) [])
+  startFor f = startIn s len (layoutOf c (r .marks)) at (fieldFor (c .fields) f - 1)
 
   unfoldable pub typedRec : Record
-  typedRec = typed (c .number) (marksOf (flags (r .marks))) valuesFor (λ f e. placeIn (startFor f) e (valuesFor f))
+  typedRec = typed (c .number) (marksOf (flags (r .marks))) (valuesFor c r) (λ f e. placeIn (startFor f) e (valuesFor c r f))
 
 -- Of octets: each item is read at its start; what is not there is read at the end of the octets, where everything is zero
 

@@ -203,7 +203,7 @@ module _ (s : List ℕ) (o : Octets s) (t : Record) (w : Fine s t) (small : t .m
   from = itemsFrom x len (category (t .category)) 3
 
   abbrev back : Record
-  back = typedRec (category (t .category)) (recOf s t) from
+  back = typedRec x len (category (t .category)) (recOf s t) from
 
   back-step : stepOf x 3 ≡ Step.Taken back (record { at = len })
   back-step = step-read x (t .category) len (got-one .head) 3 len (recOf s t) (omega arith) (got-one .more) (got-one .is)
@@ -224,7 +224,7 @@ module _ (s : List ℕ) (o : Octets s) (t : Record) (w : Fine s t) (small : t .m
 
   -- the item of a form, by its values: where its entries or content start
   abbrev placed-at : Form → Trace → ℕ
-  placed-at f tr = placeIn (startFor (category (t .category)) (recOf s t) from f) 0 tr .at
+  placed-at f tr = placeIn (startFor x len (category (t .category)) (recOf s t) from f) 0 tr .at
 
   back-item : (f : Form) → (f ≡ otherForm (t .category) → ⊥) → (b : Bool) → has t f ≡ b
       → let tr = pick b (traceOf s (itemIn t f)) [] in itemIn back f ≡ itemOf f tr (placed-at f tr)
@@ -233,7 +233,7 @@ module _ (s : List ℕ) (o : Octets s) (t : Record) (w : Fine s t) (small : t .m
       let c = category (t .category) in
       let r = recOf s t in
       let same : otherForm (c .number) ≡ otherForm (t .category) = ap otherForm (category-number (t .category)) in
-      made-item (c .number) (marksOf (flags (r .marks))) (valuesFor c r from) (startFor c r from) f (λ e. own (e ∙ same))
+      made-item (c .number) (marksOf (flags (r .marks))) (valuesFor c r) (startFor x len c r from) f (λ e. own (e ∙ same))
       ∙ ap (λ (tr : Trace). itemOf f tr (placed-at f tr)) (values-for s t f ∙ ap (λ (b : Bool). pick b (traceOf s (itemIn t f)) []) h)
 
   -- marked, it is the item that was given
