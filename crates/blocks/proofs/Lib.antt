@@ -14,6 +14,7 @@ pub mod Faults
 pub mod RecordFaults
 pub mod ListedLaws
 pub mod ItemStarts
+pub mod FormLaws
 pub mod TypedLaws
 pub mod StepLaws
 pub mod MeaningLaws
@@ -21,5 +22,6 @@ pub mod BoundaryLaws
 pub mod SameAnswers
 pub mod AtEnd
 pub mod RecordStarts
+pub mod TypedOctets
 pub mod TakenLaws
 pub mod SeenLaws

@@ -1,16 +1,16 @@
 -- A typed record that was made of a record read means that record. Assumes nothing.
 use mathlib.Core.Path.{_≡_, refl, sym, ap, _∙_, subst}
-use mathlib.Core.Bool.{Bool, true, false, _&&_, false≢true}
+use mathlib.Core.Bool.{Bool, true, false, false≢true}
 use mathlib.Core.List.{List, [], _∷_, _++_}
 use Prim.Native.Nat.{ℕ, zero, suc, _+_, _-_, _*_, _/_, _%_, _≤_, _<_}
-use native.Mathlib.Nat.{zero-add, sub-zero, add-zero}
+use native.Mathlib.Nat.{sub-zero}
 use native.Mathlib.Omega.{arith}
 use borrow.Author.Tests.{eqb-true}
 use lib.Dec.{leb, ltb, eqb}
 use lib.ListN.{length, getD, replicate}
 use Rattle.octets.specs.Choice.{pick, odd}
 use Rattle.octets.specs.Numbers.{Octets, number}
-use Rattle.octets.proofs.Cases.{choose, both}
+use Rattle.octets.proofs.Cases.{choose}
 use Rattle.layouts.specs.Groups.{values, Group}
 use Rattle.layouts.specs.Formats.{Answer, refused, got, andThen, Format, done, ask, Trace, fitsIn}
 use Rattle.layouts.specs.Offsets.{runAt, itemAt}
@@ -32,7 +32,8 @@ use Rattle.blocks.specs.Steps.{itemsFrom}
 use Rattle.blocks.specs.Meaning.{itemIn, sevens, valuesOf, recOf}
 use Rattle.blocks.specs.declared.record.Record.{Record}
 use Rattle.blocks.proofs.MarksLaws.{flags-long, flags-32, marks-one, marks-cons, specs-marked}
-use Rattle.blocks.proofs.WalkSteps.{by-known, Table, table, item-run}
+use Rattle.blocks.proofs.WalkSteps.{Table, table, item-run}
+use Rattle.blocks.proofs.FormLaws.{owned, Forms, forms, field-owned}
 use Rattle.blocks.proofs.ItemStarts.{formats-at, items-there}
 use Rattle.blocks.proofs.ReadSteps.{record-parts}
 
@@ -229,37 +230,6 @@ module _ (number marks : ℕ) (values : Form → Trace) (start : Form → ℕ) w
   made-item form.Expansion own = ap Item.Expansion (place-of 1 Form.Expansion)
   made-item form.Purpose own = ap Item.Purpose (place-of 1 Form.Purpose)
 
--- a form is spare, or field k + 1 is its field
-abbrev owned : List Form → Form → ℕ → Bool
-owned fs f k = pick (isUnused (layout f)) true (eqb (fieldFor fs f) (suc k))
-
--- and so from k on
-abbrev owns : List Form → List Form → ℕ → Bool
-owns fs [] k = true
-owns fs (g ∷ gs) k = owned fs g k && owns fs gs (suc k)
-
-owns-at : (fs gs : List Form) (k n : ℕ) → owns fs gs k ≡ true → n < length gs
-    → owned fs (getD gs n Form.Spare) (k + n) ≡ true
-owns-at fs [] k n h l = absurd (omega arith)
-owns-at fs (g ∷ gs) k zero h l = rw add-zero (both (owned fs g k) (owns fs gs (suc k)) h .0)
-owns-at fs (g ∷ gs) k (suc n) h l =
-    let e : suc k + n ≡ k + suc n = omega arith in
-    rw (← e) (owns-at fs gs (suc k) n (both (owned fs g k) (owns fs gs (suc k)) h .1) (omega arith))
-
--- what a typed record needs of a category: no form at two fields, and entries of one kind
-pub record Forms (c : Category) : Type 0 where
-  pub same : category (c .number) ≡ c
-  own : owns (c .fields) (c .fields) 0 ≡ true
-  statistics : (i : ℕ) → fieldFor (c .fields) Form.Statistics ≡ suc i → eqb (c .number) 242 ≡ false
-  versions : (i : ℕ) → fieldFor (c .fields) Form.Versions ≡ suc i → eqb (c .number) 242 ≡ true
-
-pub forms : (n : ℕ) → known n ≡ true → Forms (category n)
-forms =
-    by-known (λ (n : ℕ). Forms (category n))
-    (record { same = refl; own = refl; statistics = λ i h. refl; versions = λ i h. absurd (omega arith) })
-    (record { same = refl; own = refl; statistics = λ i h. refl; versions = λ i h. absurd (omega arith) })
-    (record { same = refl; own = refl; statistics = λ i h. absurd (omega arith); versions = λ i h. refl })
-
 one-less : (i : ℕ) → suc i - 1 ≡ i
 one-less i = omega arith
 
@@ -320,7 +290,7 @@ module _ (s : List ℕ) (len : ℕ) (c : Category) (w : Forms c) (gs : List ℕ)
     f = getD (c .fields) n Form.Spare
 
     own : owned (c .fields) f n ≡ true
-    own = rw zero-add at (owns-at (c .fields) (c .fields) 0 n (w .own) l)
+    own = field-owned c w n l
 
     there : itemAt s len (pick (getD (flags gs) n false) (format (layout f)) done) (start n) ≡ got (getD trs n []) (start (suc n))
     unfolding layoutOf

@@ -13,11 +13,9 @@ use Rattle.layouts.specs.Tables.{counter, version}
 use Rattle.layouts.specs.Categories.{Category, category}
 use Rattle.items.specs.Typed.{counterOf, versionOf}
 use Rattle.blocks.specs.Headers.{headerOf}
-use Rattle.blocks.specs.Specification.{flags}
-use Rattle.blocks.specs.Marks.{marksOf}
 use Rattle.blocks.specs.Records.{Rec}
 use Rattle.blocks.specs.Offsets.{specsAt, recordAt}
-use Rattle.blocks.specs.Typed.{absent, stopOf, typedRec, typedOf}
+use Rattle.blocks.specs.Typed.{absent, stopOf, typedRec}
 use Rattle.blocks.specs.declared.header.Head.{Head}
 use Rattle.blocks.specs.declared.header.Head.the-variants as head
 use Rattle.blocks.specs.declared.record.Record.{Record}
@@ -29,11 +27,6 @@ use Rattle.blocks.specs.declared.cursor.Found.the-variants as found
 -- where the items of a record at an offset start: behind its specification
 abbrev pub itemsFrom : List ℕ → ℕ → Category → ℕ → ℕ
 itemsFrom s len c at = stopOf at (specsAt s len (c .most - 1) at)
-
--- the typed record that is made of the octets behind a specification
-abbrev pub typedBehind : List ℕ → ℕ → ℕ → ℕ → Answer ℕ (List ℕ) → Record
-typedBehind s len number at (refused n) = typedOf s len number 0 at
-typedBehind s len number at (got gs p) = typedOf s len number (marksOf (flags gs)) p
 
 -- by what is made of a refusal, its number and offset, and of a typed record with the next start
 module _ {A : Type 0} (no : ℕ → ℕ → A) (yes : Record → ℕ → A) where

@@ -1,29 +1,29 @@
 -- The typed record: of each item its values, by its form; an item that is not there has none, and is all zero.
-use mathlib.Core.Bool.{Bool, false}
 use mathlib.Core.List.{List, [], _∷_}
 use Prim.Native.Nat.{ℕ, zero, suc, _+_, _-_}
 use lib.Dec.{eqb}
-use lib.ListN.{length, getD}
+use lib.ListN.{getD}
 use Rattle.octets.specs.Choice.{pick}
 use Rattle.layouts.specs.Formats.{Answer, refused, got, Format, Trace}
 use Rattle.layouts.specs.Offsets.{runAt, traceAt}
-use Rattle.layouts.specs.Layouts.{format, kindOf}
-use Rattle.layouts.specs.Ends.{kindEnd}
+use Rattle.layouts.specs.Layouts.{format}
 use Rattle.layouts.specs.Tables.{layout}
-use Rattle.layouts.specs.Categories.{Category, category, layoutAt}
-use Rattle.layouts.specs.declared.ends.End.{End}
-use Rattle.layouts.specs.declared.ends.End.the-variants.{At, Refused}
+use Rattle.layouts.specs.Categories.{Category}
 use Rattle.layouts.specs.declared.form.Form.{Form}
 use Rattle.layouts.specs.declared.form.Form.the-variants as form
 use Rattle.items.specs.Typed.{val, sourceOf, serviceOf, timeOf, sdpsOf, stationOf, configurationOf, placeAt}
 use Rattle.items.specs.declared.typed.Place.{Place}
 use Rattle.blocks.specs.Specification.{flags}
-use Rattle.blocks.specs.Marks.{marksOf, flagsOf}
+use Rattle.blocks.specs.Marks.{marksOf}
 use Rattle.blocks.specs.Records.{Rec, layoutOf}
 use Rattle.blocks.specs.declared.record.Record.{Record}
 
 abbrev pub nowhere : Place
 nowhere = record { at = 0; count = 0 }
+
+-- the form of a category's entries: 242/550 or 23/120
+abbrev pub entriesForm : ℕ → Form
+entriesForm number = pick (eqb number 242) Form.Versions Form.Statistics
 
 -- the record of a category with these marks, of each item's values and of the places of entries and content: `place` is given an item's
 -- form and how many more than these its count octet has
@@ -43,7 +43,7 @@ typed number marks values place = record {
   configuration = configurationOf (values Form.Configuration);
   range = val (values Form.Range) 0 0;
   status = val (values Form.Status) 0 0;
-  entries = place (pick (eqb number 242) Form.Versions Form.Statistics) 0;
+  entries = place (entriesForm number) 0;
   expansion = place Form.Expansion 1;
   purpose = place Form.Purpose 1;
 }
@@ -52,35 +52,35 @@ typed number marks values place = record {
 abbrev pub absent : Record
 absent = typed 0 0 (λ f. []) (λ f e. nowhere)
 
--- the forms in turn
-abbrev pub turn : Form → ℕ
-turn form.Spare = 0
-turn form.Source = 1
-turn form.MessageType = 2
-turn form.Service = 3
-turn form.Identification = 4
-turn form.Time = 5
-turn form.Batch = 6
-turn form.Sdps = 7
-turn form.Report = 8
-turn form.Station = 9
-turn form.Configuration = 10
-turn form.Range = 11
-turn form.Status = 12
-turn form.Statistics = 13
-turn form.Versions = 14
-turn form.Expansion = 15
-turn form.Purpose = 16
+-- a form's place among the forms
+abbrev pub formPlace : Form → ℕ
+formPlace form.Spare = 0
+formPlace form.Source = 1
+formPlace form.MessageType = 2
+formPlace form.Service = 3
+formPlace form.Identification = 4
+formPlace form.Time = 5
+formPlace form.Batch = 6
+formPlace form.Sdps = 7
+formPlace form.Report = 8
+formPlace form.Station = 9
+formPlace form.Configuration = 10
+formPlace form.Range = 11
+formPlace form.Status = 12
+formPlace form.Statistics = 13
+formPlace form.Versions = 14
+formPlace form.Expansion = 15
+formPlace form.Purpose = 16
 
--- one field further; none stays none
-abbrev pub further : ℕ → ℕ
-further zero = 0
-further (suc f) = suc (suc f)
+-- the field after one; after none there is none
+abbrev pub fieldAfter : ℕ → ℕ
+fieldAfter zero = 0
+fieldAfter (suc f) = suc (suc f)
 
 -- the number of the field of a form, from 1; 0 where there is none
 abbrev pub fieldFor : List Form → Form → ℕ
 fieldFor [] f = 0
-fieldFor (g ∷ gs) f = pick (eqb (turn g) (turn f)) 1 (further (fieldFor gs f))
+fieldFor (g ∷ gs) f = pick (eqb (formPlace g) (formPlace f)) 1 (fieldAfter (fieldFor gs f))
 
 -- Of a record that was read, its items behind an offset
 
@@ -112,33 +112,9 @@ module _ (s : List ℕ) (len : ℕ) (c : Category) (r : Rec) (at : ℕ) where
   unfoldable pub typedRec : Record
   typedRec = typed (c .number) (marksOf (flags (r .marks))) (valuesFor c r) (λ f e. placeIn (startFor f) e (valuesFor c r f))
 
--- Of octets: each item is read at its start; what is not there is read at the end of the octets, where everything is zero
-
-abbrev pub endFrom : ℕ → End → ℕ
-endFrom at (At q) = q
-endFrom at (Refused n) = at
-
-module _ (s : List ℕ) (len : ℕ) (c : Category) (marks at : ℕ) where
-  abbrev pub marked : ℕ → Bool
-  marked f = getD (flagsOf 32 marks) (f - 1) false
-
-  -- where the items of the first n fields end
-  unfoldable pub behind : ℕ → ℕ
-  behind zero = at
-  behind (suc n) = pick (marked (suc n)) (endFrom (behind n) (kindEnd s len (kindOf (layoutAt c (suc n))) (behind n))) (behind n)
-
-  -- where the item of a field starts; the end of the octets where it is not there
-  unfoldable pub startOf : ℕ → ℕ
-  startOf f = pick (marked f) (behind (f - 1)) (length s)
-
-module _ (s : List ℕ) (c : Category) (start : ℕ → ℕ) where
-  -- where the item of a form starts, from the starts by field number
-  abbrev pub startBy : Form → ℕ
-  startBy f = pick (eqb (fieldFor (c .fields) f) 0) (length s) (start (fieldFor (c .fields) f))
-
-  abbrev pub typedBy : ℕ → Record
-  typedBy marks = typed (c .number) marks (λ f. traceAt (format (layout f)) s (startBy f)) (λ f e. placeAt s (startBy f) e)
-
--- a record of a category whose items start behind its specification
-unfoldable pub typedOf : List ℕ → ℕ → ℕ → ℕ → ℕ → Record
-typedOf s len number marks at = typedBy s (category number) (startOf s len (category number) marks at) marks
+-- Of octets, the items that start at these offsets, by the places of their forms; one that is not there starts at the end of the octets, where
+-- everything is zero
+abbrev pub typedBy : List ℕ → ℕ → ℕ → List ℕ → Record
+typedBy s number marks starts =
+    let start : Form → ℕ = λ f. getD starts (formPlace f) 0 in
+    typed number marks (λ f. traceAt (format (layout f)) s (start f)) (λ f e. placeAt s (start f) e)

@@ -16,6 +16,7 @@ use Rattle.blocks.specs.Headers.{headerOf}
 use Rattle.blocks.specs.Records.{Rec, layoutOf, putItems, recordOf}
 use Rattle.blocks.specs.Blocks.{all, records, blockOf}
 use Rattle.blocks.specs.Walks.{readOf}
+use Rattle.blocks.specs.Typed.{entriesForm}
 use Rattle.blocks.specs.Steps.{stepOf, entryIn, entryOf}
 use Rattle.blocks.specs.Meaning.{recOf}
 use Rattle.blocks.specs.Alike.{RecordAlikeAt, RecordsAlikeAt}
@@ -32,7 +33,7 @@ use Rattle.blocks.proofs.BoundaryLaws.{visited, step-end}
 use Rattle.blocks.proofs.SameAnswers.{read-alike, block-alike, step-alike, entry-alike, read-after-len, block-after-len, step-after-len, entry-after-len}
 use Rattle.octets.specs.Outcomes.{puts}
 use Rattle.writing.specs.Written.{writeOf, rewriteOf}
-use Rattle.writing.specs.Same.{entriesForm, has, Same}
+use Rattle.writing.specs.Same.{has, Same}
 use Rattle.octets.specs.declared.output.Written.{Written}
 use Rattle.writing.proofs.RewriteTheorems.{rewrite-accepted, rewrite-reading, rewrite-again, rewrite-short, rewrite-same, rewrite-typed}
 use Rattle.writing.proofs.WriteTheorems.{write-normal, write-reading}

@@ -23,13 +23,13 @@ use Rattle.items.specs.Typed.{itemOf, settled, placed, givenTrace, traceOf}
 use Rattle.items.specs.declared.typed.Place.{Place}
 use Rattle.items.proofs.ReadBack.{typed-back}
 use Rattle.blocks.specs.Specification.{flags}
-use Rattle.blocks.specs.Marks.{marksOf, flagsOf}
+use Rattle.blocks.specs.Marks.{marksOf, flagsOf, marked}
 use Rattle.blocks.specs.Headers.{headerOf}
 use Rattle.blocks.specs.Records.{Rec}
 use Rattle.blocks.specs.Blocks.{all, blockOf}
 use Rattle.blocks.specs.Offsets.{recordAt}
 use Rattle.blocks.specs.Walks.{readOf}
-use Rattle.blocks.specs.Typed.{nowhere, typed, absent, fieldFor, placeIn, valuesFor, startFor, typedRec}
+use Rattle.blocks.specs.Typed.{nowhere, entriesForm, typed, absent, fieldFor, placeIn, valuesFor, startFor, typedRec}
 use Rattle.blocks.specs.Steps.{itemsFrom, stepOf, entryGroupOf, entryValues, foundOf, entryIn, entryOf}
 use Rattle.blocks.specs.Meaning.{itemIn, valuesOf, recOf}
 use Rattle.blocks.specs.Boundaries.{Joined}
@@ -40,13 +40,14 @@ use Rattle.blocks.specs.declared.cursor.Step.{Step}
 use Rattle.blocks.specs.declared.cursor.Found.{Found}
 use Rattle.blocks.proofs.WalkSteps.{by-known, table}
 use Rattle.blocks.proofs.BlockLaws.{category-number}
-use Rattle.blocks.proofs.TypedLaws.{field-form, groups-at}
+use Rattle.blocks.proofs.FormLaws.{field-form}
+use Rattle.blocks.proofs.TypedLaws.{groups-at}
 use Rattle.blocks.proofs.MeaningLaws.{made-item, means-read}
 use Rattle.blocks.proofs.BoundaryLaws.{read-filled, step-read}
 use Rattle.blocks.proofs.StepLaws.{entry-taken}
 use Rattle.octets.specs.Outcomes.{puts}
 use Rattle.writing.specs.Written.{writeOf}
-use Rattle.writing.specs.Same.{has, entriesForm, otherForm, Same}
+use Rattle.writing.specs.Same.{has, otherForm, Same}
 use Rattle.writing.proofs.MarksWritten.{flags-sevens, by-fields}
 use Rattle.writing.proofs.ItemsWritten.{form-in}
 use Rattle.writing.proofs.RecordWritten.{Fine, fine}
@@ -122,9 +123,9 @@ module _ (s : List ℕ) (t : Record) where
       go (suc n) e = values-at bs fs n ∙ ap (λ (g : Form). pick (getD bs n false) (traceOf s (itemIn t g)) []) (field-form fs f n e)
 
 -- no record has a mark for entries of another category
-other-none : (n : ℕ) → known n ≡ true → (m : ℕ) → getD (false ∷ flagsOf 32 m) (fieldFor (category n .fields) (otherForm n)) false ≡ false
+other-none : (n : ℕ) → known n ≡ true → (m : ℕ) → marked m (fieldFor (category n .fields) (otherForm n)) ≡ false
 other-none =
-    by-known (λ (n : ℕ). (m : ℕ) → getD (false ∷ flagsOf 32 m) (fieldFor (category n .fields) (otherForm n)) false ≡ false)
+    by-known (λ (n : ℕ). (m : ℕ) → marked m (fieldFor (category n .fields) (otherForm n)) ≡ false)
     (λ m. refl) (λ m. refl) (λ m. refl)
 
 -- entries have one form or the other, and their values are so many groups

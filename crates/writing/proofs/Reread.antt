@@ -30,7 +30,8 @@ use Rattle.blocks.specs.declared.record.Record.{Record}
 use Rattle.blocks.proofs.BlockLaws.{category-number}
 use Rattle.blocks.proofs.MarksLaws.{flags-32, mark-more, spare-more, specs-marked}
 use Rattle.blocks.proofs.ReadSteps.{record-parts}
-use Rattle.blocks.proofs.MeaningLaws.{Forms, forms, item-read, means-read}
+use Rattle.blocks.proofs.FormLaws.{Forms, forms}
+use Rattle.blocks.proofs.MeaningLaws.{item-read, means-read}
 use Rattle.blocks.proofs.WalkSteps.{Table, table}
 use Rattle.writing.specs.Judged.{orElse, itemsRefusal, fields, markedRefusal, recordRefusal, recordOctets}
 use Rattle.writing.specs.Judged as judged
