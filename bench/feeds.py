@@ -1,5 +1,5 @@
-"""NAME MEGABYTES FILE TWICE: writes the feed NAME (small, long or heavy) of about so many million octets, and one of
-twice as many, and prints the octets and the blocks of both. The same octets each time: two million octets of blocks are
+"""NAME MEGABYTES FILE TWICE: writes the feed NAME (small, long, heavy or short) of about so many million octets, and one
+of twice as many, and prints the octets and the blocks of both. The same octets each time: two million octets of blocks are
 made, and repeated."""
 import random
 import sys
@@ -146,10 +146,15 @@ def heavy(rng):
     return block(23, [heavy_report(rng) for _ in range(rng.randint(1, 8))])
 
 
+def short(rng):
+    """Blocks of 13,106 of the shortest records of category 23, five octets each, LEN 65,533: nothing but records to walk."""
+    return block(23, [short_23(rng) for _ in range((LONGEST - 3) // 5)])
+
+
 def unit(name):
     """Blocks up to some millions of octets, and how many."""
     rng = random.Random(name)
-    make = {'small': small, 'long': long, 'heavy': heavy}[name]
+    make = {'small': small, 'long': long, 'heavy': heavy, 'short': short}[name]
     blocks, size = [], 0
     while size < UNIT:
         blocks.append(make(rng))

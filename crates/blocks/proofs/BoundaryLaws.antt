@@ -81,7 +81,7 @@ module _ (s : List ℕ) (cat len : ℕ) (h : headerOf s ≡ Head.Good cat len) w
   abbrev pub body : Block
   body = recordsAt s len (category cat) len 3
 
-  read-good : readOf s ≡ answerOf len body
+  pub read-good : readOf s ≡ answerOf len body
   unfolding readOf
   read-good = rw h
 
@@ -92,7 +92,7 @@ module _ (s : List ℕ) (cat len : ℕ) (h : headerOf s ≡ Head.Good cat len) w
   body-found : Octets s → Found s len (category cat) 3 body
   body-found o = let w = header-good s cat len h in found s len (category cat) o len 3 (omega arith) (omega arith)
 
-read-refused : (s : List ℕ) (n : ℕ) → headerOf s ≡ Head.Refused n → readOf s ≡ Reading.Refused n 0
+pub read-refused : (s : List ℕ) (n : ℕ) → headerOf s ≡ Head.Refused n → readOf s ≡ Reading.Refused n 0
 unfolding readOf
 read-refused s n h = rw h
 

@@ -1,4 +1,4 @@
--- Forms and their fields: a form's place tells it, its field has it, and no form of items has two fields. Assumes nothing.
+-- Forms and their fields: a form's number tells it, its field has it, and no form of items has two fields. Assumes nothing.
 use mathlib.Core.Path.{_≡_, refl, sym, ap, _∙_}
 use mathlib.Core.Bool.{Bool, true, false, _&&_}
 use mathlib.Core.List.{List, [], _∷_}
@@ -15,64 +15,65 @@ use Rattle.layouts.specs.Tables.{layout}
 use Rattle.layouts.specs.Categories.{Category, known, category}
 use Rattle.layouts.specs.declared.form.Form.{Form}
 use Rattle.layouts.specs.declared.form.Form.the-variants as form
-use Rattle.blocks.specs.Typed.{formPlace, fieldAfter, fieldFor}
+use Rattle.blocks.specs.Forms.{formNumber}
+use Rattle.blocks.specs.Typed.{fieldAfter, fieldFor}
 use Rattle.blocks.proofs.WalkSteps.{by-known}
 
--- Places
+-- Numbers
 
 abbrev all : List Form
 all =
     Form.Spare ∷ Form.Source ∷ Form.MessageType ∷ Form.Service ∷ Form.Identification ∷ Form.Time ∷ Form.Batch ∷ Form.Sdps ∷ Form.Report
     ∷ Form.Station ∷ Form.Configuration ∷ Form.Range ∷ Form.Status ∷ Form.Statistics ∷ Form.Versions ∷ Form.Expansion ∷ Form.Purpose ∷ []
 
-in-place : (f : Form) → getD all (formPlace f) Form.Spare ≡ f
-in-place form.Spare = refl
-in-place form.Source = refl
-in-place form.MessageType = refl
-in-place form.Service = refl
-in-place form.Identification = refl
-in-place form.Time = refl
-in-place form.Batch = refl
-in-place form.Sdps = refl
-in-place form.Report = refl
-in-place form.Station = refl
-in-place form.Configuration = refl
-in-place form.Range = refl
-in-place form.Status = refl
-in-place form.Statistics = refl
-in-place form.Versions = refl
-in-place form.Expansion = refl
-in-place form.Purpose = refl
+in-number : (f : Form) → getD all (formNumber f) Form.Spare ≡ f
+in-number form.Spare = refl
+in-number form.Source = refl
+in-number form.MessageType = refl
+in-number form.Service = refl
+in-number form.Identification = refl
+in-number form.Time = refl
+in-number form.Batch = refl
+in-number form.Sdps = refl
+in-number form.Report = refl
+in-number form.Station = refl
+in-number form.Configuration = refl
+in-number form.Range = refl
+in-number form.Status = refl
+in-number form.Statistics = refl
+in-number form.Versions = refl
+in-number form.Expansion = refl
+in-number form.Purpose = refl
 
--- forms with the same place are the same
-pub same-place : (f g : Form) → formPlace f ≡ formPlace g → f ≡ g
-same-place f g h = sym (in-place f) ∙ ap (λ (n : ℕ). getD all n Form.Spare) h ∙ in-place g
+-- forms with the same number are the same
+pub same-number : (f g : Form) → formNumber f ≡ formNumber g → f ≡ g
+same-number f g h = sym (in-number f) ∙ ap (λ (n : ℕ). getD all n Form.Spare) h ∙ in-number g
 
--- no place is past the last: only the first form would be found there
-pub place-few : (f : Form) → formPlace f < 17
-place-few f =
-    test (ltb (formPlace f) 17) (ltb-true (formPlace f) 17)
+-- no number is past the last: only the first form would be found there
+pub number-few : (f : Form) → formNumber f < 17
+number-few f =
+    test (ltb (formNumber f) 17) (ltb-true (formNumber f) 17)
     (λ t.
-    let past : Form.Spare ≡ f = sym (List·getD-eq-default all Form.Spare {n = formPlace f} (ltb-false (formPlace f) 17 t)) ∙ in-place f in
-    omega (arith, ap formPlace past))
+    let past : Form.Spare ≡ f = sym (List·getD-eq-default all Form.Spare {n = formNumber f} (ltb-false (formNumber f) 17 t)) ∙ in-number f in
+    omega (arith, ap formNumber past))
 
 -- Fields
 
 -- the field of a form has that form
 pub field-form : (fs : List Form) (f : Form) (n : ℕ) → fieldFor fs f ≡ suc n → getD fs n Form.Spare ≡ f
 field-form [] f n h = absurd (omega arith)
-field-form (g ∷ fs) f n h = go (eqb (formPlace g) (formPlace f)) refl (fieldFor fs f) (field-form fs f) h
+field-form (g ∷ fs) f n h = go (eqb (formNumber g) (formNumber f)) refl (fieldFor fs f) (field-form fs f) h
   where
-    go : (b : Bool) → eqb (formPlace g) (formPlace f) ≡ b → (k : ℕ) → ((m : ℕ) → k ≡ suc m → getD fs m Form.Spare ≡ f)
+    go : (b : Bool) → eqb (formNumber g) (formNumber f) ≡ b → (k : ℕ) → ((m : ℕ) → k ≡ suc m → getD fs m Form.Spare ≡ f)
         → pick b 1 (fieldAfter k) ≡ suc n → getD (g ∷ fs) n Form.Spare ≡ f
-    go true e k ih h = let z : n ≡ 0 = omega arith in rw z (same-place g f (eqb-true (formPlace g) (formPlace f) e))
+    go true e k ih h = let z : n ≡ 0 = omega arith in rw z (same-number g f (eqb-true (formNumber g) (formNumber f) e))
     go false e zero ih h = absurd (omega arith)
     go false e (suc m) ih h = let z : n ≡ suc m = omega arith in rw z (ih m refl)
 
 -- and is one of the fields
 pub field-few : (fs : List Form) (f : Form) → fieldFor fs f ≤ length fs
 field-few [] f = omega arith
-field-few (g ∷ fs) f = go (eqb (formPlace g) (formPlace f)) (fieldFor fs f) (field-few fs f)
+field-few (g ∷ fs) f = go (eqb (formNumber g) (formNumber f)) (fieldFor fs f) (field-few fs f)
   where
     go : (b : Bool) (k : ℕ) → k ≤ length fs → pick b 1 (fieldAfter k) ≤ length (g ∷ fs)
     go true k l = omega arith

@@ -94,18 +94,22 @@ module _ (c : Category) (cat : ℕ) where
             (reads-any n len len' v us (rest-octets c (x ∷ b) r v o f) w))
 
 -- A block in which one record, behind whole records a, has a second specification octet of zero has the records of the block without it.
-pub second-block : (cat : ℕ) → known cat ≡ true → 2 ≤ category cat .most → (a b : List ℕ) (x : ℕ) → Octets a → Octets (x ∷ b) → odd x ≡ false
-    → (n len : ℕ) (rs ts : List Rec) → records n len (category cat) a ≡ all cat rs → records n len (category cat) (x ∷ b) ≡ all cat ts
-    → 3 + length (a ++ ((x + 1) ∷ 0 ∷ b)) < 65536
-    → (t : List ℕ) → blockOf (headed cat (a ++ ((x + 1) ∷ 0 ∷ b)) ++ t) ≡ blockOf (headed cat (a ++ (x ∷ b)) ++ t)
-second-block cat k two a b x o o' even n len rs ts e f fit t =
-    let c = category cat in
-    let same = category-number cat in
-    let longer = a ++ ((x + 1) ∷ 0 ∷ b) in
-    let plain = a ++ (x ∷ b) in
-    let l : length longer ≡ suc (length plain) = rw (length-append, length-append) (omega arith) in
-    let some : 0 < length plain = rw length-append (omega arith) in
-    let one = reads-join c cat same n len (3 + length longer) ((x + 1) ∷ 0 ∷ b) ts (reads-second c cat same n len (3 + length longer) x b ts two even o' f) a rs o e in
-    let other = reads-join c cat same n len (3 + length plain) (x ∷ b) ts (reads-any c cat same n len (3 + length plain) (x ∷ b) ts o' f) a rs o e in
-    headed-read cat longer t fit k (omega arith) ∙ one (3 + length longer) (omega arith)
-    ∙ sym (headed-read cat plain t (omega arith) k some ∙ other (3 + length plain) (omega arith))
+module _ (cat : ℕ) (k : known cat ≡ true) (two : 2 ≤ category cat .most) (a b : List ℕ) (x : ℕ) (o : Octets a) (o' : Octets (x ∷ b))
+    (even : odd x ≡ false) (n len : ℕ) (rs ts : List Rec) (e : records n len (category cat) a ≡ all cat rs)
+    (f : records n len (category cat) (x ∷ b) ≡ all cat ts) (fit : 3 + length (a ++ ((x + 1) ∷ 0 ∷ b)) < 65536) (t : List ℕ) where
+  pub second-records : (blockOf (headed cat (a ++ ((x + 1) ∷ 0 ∷ b)) ++ t) ≡ all cat (rs ++ ts)) × (blockOf (headed cat (a ++ (x ∷ b)) ++ t) ≡ all cat (rs ++ ts))
+  second-records =
+      let c = category cat in
+      let same = category-number cat in
+      let longer = a ++ ((x + 1) ∷ 0 ∷ b) in
+      let plain = a ++ (x ∷ b) in
+      let l : length longer ≡ suc (length plain) = rw (length-append, length-append) (omega arith) in
+      let some : 0 < length plain = rw length-append (omega arith) in
+      let one = reads-join c cat same n len (3 + length longer) ((x + 1) ∷ 0 ∷ b) ts (reads-second c cat same n len (3 + length longer) x b ts two even o' f) a rs o e in
+      let other = reads-join c cat same n len (3 + length plain) (x ∷ b) ts (reads-any c cat same n len (3 + length plain) (x ∷ b) ts o' f) a rs o e in (
+        headed-read cat longer t fit k (omega arith) ∙ one (3 + length longer) (omega arith),
+        headed-read cat plain t (omega arith) k some ∙ other (3 + length plain) (omega arith),
+      )
+
+  pub second-block : blockOf (headed cat (a ++ ((x + 1) ∷ 0 ∷ b)) ++ t) ≡ blockOf (headed cat (a ++ (x ∷ b)) ++ t)
+  second-block = second-records .0 ∙ sym (second-records .1)

@@ -7,6 +7,7 @@ pub mod WindowLaws
 pub mod BeforeLaws
 pub mod AlikeLaws
 pub mod MarksLaws
+pub mod NextLaws
 pub mod PresenceLaws
 pub mod WalkSteps
 pub mod ReadSteps
@@ -19,6 +20,8 @@ pub mod TypedLaws
 pub mod StepLaws
 pub mod MeaningLaws
 pub mod BoundaryLaws
+pub mod StoppedLaws
+pub mod StepFaults
 pub mod SameAnswers
 pub mod AtEnd
 pub mod RecordStarts

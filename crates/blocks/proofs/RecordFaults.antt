@@ -30,24 +30,24 @@ use Rattle.blocks.proofs.Faults.{both-hold, neither, answer-got, spec-g
 -- Marks
 
 -- the number of marks is 0 where none is set
-marks-zero : (bs : List Bool) → marksOf bs ≡ 0 → (i : ℕ) → getD bs i false ≡ true → ⊥
+pub marks-zero : (bs : List Bool) → marksOf bs ≡ 0 → (i : ℕ) → getD bs i false ≡ true → ⊥
 unfolding marksOf
 marks-zero [] h i m = false≢true m
 marks-zero (true ∷ bs) h i m = omega arith
 marks-zero (false ∷ bs) h zero m = false≢true m
 marks-zero (false ∷ bs) h (suc i) m = marks-zero bs (omega arith) i m
 
-zero-marks : (bs : List Bool) → ((i : ℕ) → getD bs i false ≡ true → ⊥) → marksOf bs ≡ 0
+pub zero-marks : (bs : List Bool) → ((i : ℕ) → getD bs i false ≡ true → ⊥) → marksOf bs ≡ 0
 unfolding marksOf
 zero-marks [] h = refl
 zero-marks (true ∷ bs) h = absurd (h 0 refl)
 zero-marks (false ∷ bs) h = rw (zero-marks bs (λ i. h (suc i)))
 
 -- a mark is set where a spare field, or none, stands
-abbrev SpareAt : List Bool → List Form → Type 0
+abbrev pub SpareAt : List Bool → List Form → Type 0
 SpareAt bs fs = (i : ℕ) × (getD bs i false ≡ true) × (isUnused (layout (getD fs i Form.Spare)) ≡ true)
 
-spare-at : (bs : List Bool) (fs : List Form) → marksSpare bs fs ≡ true → SpareAt bs fs
+pub spare-at : (bs : List Bool) (fs : List Form) → marksSpare bs fs ≡ true → SpareAt bs fs
 unfolding marksSpare
 spare-at [] fs h = absurd (false≢true h)
 spare-at (true ∷ bs) [] h = (0, refl, refl)
@@ -64,7 +64,7 @@ or-yes : (a b : Bool) → b ≡ true → (a || b) ≡ true
 or-yes true b h = refl
 or-yes false b h = h
 
-at-spare : (bs : List Bool) (fs : List Form) (i : ℕ) → getD bs i false ≡ true → isUnused (layout (getD fs i Form.Spare)) ≡ true
+pub at-spare : (bs : List Bool) (fs : List Form) (i : ℕ) → getD bs i false ≡ true → isUnused (layout (getD fs i Form.Spare)) ≡ true
     → marksSpare bs fs ≡ true
 unfolding marksSpare
 at-spare [] fs i m u = absurd (false≢true m)

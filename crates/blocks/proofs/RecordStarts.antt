@@ -7,8 +7,8 @@ use native.Mathlib.Nat.{add-zero}
 use native.Mathlib.Omega.{arith}
 use borrow.Author.Tests.{lt-ltb, le-ltb, ltb-true, ltb-false, eqb-true, eqb-false}
 use lib.Dec.{ltb, eqb}
-use lib.ListN.{length, getD, set, replicate, length-set, getD-replicate, List·getD-eq-default}
-use lib.Seq.{getD-set-same, getD-set-other}
+use lib.ListN.{length, getD, set, drop, length-drop, replicate, length-set, getD-replicate, List·getD-eq-default}
+use lib.Seq.{getD-drop, getD-set-same, getD-set-other}
 use Rattle.octets.specs.Choice.{pick}
 use Rattle.octets.proofs.Cases.{test}
 use Rattle.layouts.specs.Offsets.{runAt}
@@ -17,16 +17,29 @@ use Rattle.layouts.specs.Tables.{layout}
 use Rattle.layouts.specs.Categories.{Category, formAt, fieldAt}
 use Rattle.layouts.specs.declared.category.Field.{Field}
 use Rattle.layouts.specs.declared.form.Form.{Form}
-use Rattle.blocks.specs.Marks.{flagsOf, marked}
+use Rattle.blocks.specs.Forms.{formNumber}
+use Rattle.blocks.specs.Marks.{flagsOf, marked, nextMarked}
 use Rattle.blocks.specs.Records.{formats}
-use Rattle.blocks.specs.Typed.{formPlace, fieldFor, stopOf, startIn}
-use Rattle.blocks.proofs.FormLaws.{same-place, place-few, field-form, field-few, Forms, field-owned}
+use Rattle.blocks.specs.Typed.{fieldFor, stopOf, startIn}
+use Rattle.blocks.proofs.NextLaws.{next-within, next-marked, next-unmarked}
+use Rattle.blocks.proofs.FormLaws.{same-number, number-few, field-form, field-few, Forms, field-owned}
 use Rattle.blocks.proofs.ItemStarts.{formats-at, first-start, start-next}
 
--- the mark of a field, by the place of its bit
-mark-of : (m f : ℕ) → 1 ≤ f → marked m f ≡ getD (flagsOf 32 m) (f - 1) false
-mark-of m zero l = absurd (omega arith)
-mark-of m (suc n) l = let e : suc n - 1 ≡ n = omega arith in rw e
+-- the next marked field: none before it is marked, and it is, where it is a field
+module _ (marks from f : ℕ) (low : 1 ≤ from) (high : from ≤ 33) (is : f ≡ nextMarked (drop (from - 1) (flagsOf 32 marks)) from) where
+  mark-at : (k : ℕ) → from ≤ k → marked marks k ≡ getD (drop (from - 1) (flagsOf 32 marks)) (k - from) false
+  mark-at zero l = absurd (omega arith)
+  mark-at (suc k) l = let e : from - 1 + (suc k - from) ≡ k = omega arith in sym (rw (getD-drop, e))
+
+  next-free : (k : ℕ) → from ≤ k → k < f → marked marks k ≡ false
+  next-free k l m = mark-at k l ∙ next-unmarked (drop (from - 1) (flagsOf 32 marks)) from k l (omega arith)
+
+  next-mark : f ≤ 32 → marked marks f ≡ true
+  unfolding flagsOf
+  next-mark l =
+      let bs = drop (from - 1) (flagsOf 32 marks) in
+      let long : length bs ≡ 33 - from = simp length-drop (omega arith) in
+      rw is (mark-at (nextMarked bs from) (next-within bs from .0) ∙ next-marked bs from (omega arith))
 
 module _ (s : List ℕ) (len : ℕ) (c : Category) (marks at : ℕ) where
   -- where the item of field n + 1 starts
@@ -37,14 +50,14 @@ module _ (s : List ℕ) (len : ℕ) (c : Category) (marks at : ℕ) where
   abbrev pub placed : ℕ → Bool → ℕ
   placed k b = pick b (start (k - 1)) (length s)
 
-  -- the fields before f are done: the walk stands behind their items, and has noted these by the places of their forms
+  -- the fields before f are done: the walk stands behind their items, and has noted these by the numbers of their forms
   pub record Filled (starts : List ℕ) (p f : ℕ) : Type 0 where
     pub low : 1 ≤ f
     pub size : length starts ≡ 17
     pub here : p ≡ start (f - 1)
     pub inside : p ≤ len
     pub notes : (g : Form) → isUnused (layout g) ≡ false
-        → getD starts (formPlace g) 0 ≡ placed (fieldFor (c .fields) g) (ltb (fieldFor (c .fields) g) f && marked marks (fieldFor (c .fields) g))
+        → getD starts (formNumber g) 0 ≡ placed (fieldFor (c .fields) g) (ltb (fieldFor (c .fields) g) f && marked marks (fieldFor (c .fields) g))
     pub within : (n : ℕ) → getD starts n 0 ≤ length s
 
   -- before field 1
@@ -54,7 +67,7 @@ module _ (s : List ℕ) (len : ℕ) (c : Category) (marks at : ℕ) where
     size = refl;
     here = sym (first-start s len (formats (flagsOf 32 marks) (c .fields)) at);
     inside = h;
-    notes = λ g u. getD-replicate 17 (formPlace g) (length s) 0 (place-few g) ∙ go (fieldFor (c .fields) g);
+    notes = λ g u. getD-replicate 17 (formNumber g) (length s) 0 (number-few g) ∙ go (fieldFor (c .fields) g);
     within = λ n. test (ltb n 17)
         (λ t. rw (getD-replicate 17 n (length s) 0 (ltb-true n 17 t)) (omega arith))
         (λ t. rw (List·getD-eq-default (replicate 17 (length s)) 0 {n = n} (ltb-false n 17 t)) (omega arith));
@@ -123,40 +136,32 @@ module _ (s : List ℕ) (len : ℕ) (c : Category) (marks at : ℕ) where
           within = w .within;
         }
 
-    -- past one
-    pub filled-next : getD (flagsOf 32 marks) (f - 1) false ≡ false → Filled starts p (f + 1)
-    filled-next e =
-        filled-skipped (f + 1) (omega arith) (λ k a b. let is : k ≡ f = omega arith in rw is (mark-of marks f (w .low) ∙ e))
-
     -- past the item of a field that is marked
-    module _ (more : f ≤ length (c .fields)) (own : Forms c) (mark : getD (flagsOf 32 marks) (f - 1) false ≡ true) (room : len ≤ length s) where
+    module _ (more : f ≤ length (c .fields)) (own : Forms c) (e : marked marks f ≡ true) (room : len ≤ length s) where
       abbrev form : Form
       form = formAt c f
 
-      e : marked marks f ≡ true
-      e = mark-of marks f (w .low) ∙ mark
+      same : getD (set starts (formNumber form) p) (formNumber form) 0 ≡ p
+      same = getD-set-same starts (formNumber form) p 0 (omega (arith, w .size, number-few form))
 
-      same : getD (set starts (formPlace form) p) (formPlace form) 0 ≡ p
-      same = getD-set-same starts (formPlace form) p 0 (omega (arith, w .size, place-few form))
-
-      other : (n : ℕ) → (n ≡ formPlace form → ⊥) → getD (set starts (formPlace form) p) n 0 ≡ getD starts n 0
-      other n = getD-set-other starts (formPlace form) n p 0
+      other : (n : ℕ) → (n ≡ formNumber form → ⊥) → getD (set starts (formNumber form) p) n 0 ≡ getD starts n 0
+      other n = getD-set-other starts (formNumber form) n p 0
 
       noted : (g : Form) → isUnused (layout g) ≡ false
-          → getD (set starts (formPlace form) p) (formPlace g) 0
+          → getD (set starts (formNumber form) p) (formNumber g) 0
           ≡ placed (fieldFor (c .fields) g) (ltb (fieldFor (c .fields) g) (f + 1) && marked marks (fieldFor (c .fields) g))
       noted g u =
-          test (eqb (formPlace g) (formPlace form))
+          test (eqb (formNumber g) (formNumber form))
           (λ t.
-          let is : g ≡ form = same-place g form (eqb-true (formPlace g) (formPlace form) t) in
+          let is : g ≡ form = same-number g form (eqb-true (formNumber g) (formNumber form) t) in
           let k : fieldFor (c .fields) form ≡ f = own-field own f (w .low) more (rw is at u) in
           rw (is, same, k, e, lt-ltb f (f + 1) (omega arith)) (w .here))
           (λ t.
           let not : (fieldFor (c .fields) g ≡ f → ⊥)
-          = λ k. eqb-false (formPlace g) (formPlace form) t (ap formPlace (sym (field-other f g (w .low) k))) in
-          other (formPlace g) (eqb-false (formPlace g) (formPlace form) t) ∙ w .notes g u ∙ rw (test-next (fieldFor (c .fields) g) f not))
+          = λ k. eqb-false (formNumber g) (formNumber form) t (ap formNumber (sym (field-other f g (w .low) k))) in
+          other (formNumber g) (eqb-false (formNumber g) (formNumber form) t) ∙ w .notes g u ∙ rw (test-next (fieldFor (c .fields) g) f not))
 
-      filled-form : (q : ℕ) → q ≡ stopOf p (runAt s len (format (layout form)) p) → q ≤ len → Filled (set starts (formPlace form) p) q (f + 1)
+      filled-form : (q : ℕ) → q ≡ stopOf p (runAt s len (format (layout form)) p) → q ≤ len → Filled (set starts (formNumber form) p) q (f + 1)
       filled-form q is l =
           let low = w .low in
           let to : f + 1 - 1 ≡ f = omega arith in
@@ -166,19 +171,30 @@ module _ (s : List ℕ) (len : ℕ) (c : Category) (marks at : ℕ) where
             here = is ∙ rw to (sym (start-marked f p (w .low) more e (w .here)));
             inside = l;
             notes = noted;
-            within = λ n. test (eqb n (formPlace form))
-                (λ t. rw (eqb-true n (formPlace form) t, same) (let i = w .inside in omega arith))
-                (λ t. rw (other n (eqb-false n (formPlace form) t)) (w .within n));
+            within = λ n. test (eqb n (formNumber form))
+                (λ t. rw (eqb-true n (formNumber form) t, same) (let i = w .inside in omega arith))
+                (λ t. rw (other n (eqb-false n (formNumber form) t)) (w .within n));
           }
 
-      pub filled-passed : (x : Field) → x ≡ fieldAt c f → (n : ℕ) → n ≡ formPlace (x .0)
+      pub filled-passed : (x : Field) → x ≡ fieldAt c f → (n : ℕ) → n ≡ formNumber (x .0)
           → (q : ℕ) → q ≡ stopOf p (runAt s len (format (layout (x .0))) p) → q ≤ len → Filled (set starts n p) q (f + 1)
       filled-passed x field n place q is l = rw (place, field) (filled-form q (rw field at is) l)
+
+  -- on to the next marked field
+  abbrev pub Walking : List ℕ → ℕ → ℕ → Type 0
+  Walking starts p f = Filled starts p f × (f ≤ 32 → marked marks f ≡ true)
+
+  pub walking-on : (starts : List ℕ) (p from : ℕ) → Filled starts p from → from ≤ 33
+      → (f : ℕ) → (f ≡ nextMarked (drop (from - 1) (flagsOf 32 marks)) from) × (from ≤ f) × (f ≤ 33) → Walking starts p f
+  walking-on starts p from w high f is = (
+    filled-skipped starts p from w f (is .1) (next-free marks from f (w .low) high (is .0)),
+    next-mark marks from f (w .low) high (is .0),
+  )
 
   -- behind the last field
   module _ (starts : List ℕ) (p f : ℕ) (w : Filled starts p f) (over : length (c .fields) < f) where
     pub filled-notes : (g : Form) → isUnused (layout g) ≡ false
-        → getD starts (formPlace g) 0 ≡ placed (fieldFor (c .fields) g) (marked marks (fieldFor (c .fields) g))
+        → getD starts (formNumber g) 0 ≡ placed (fieldFor (c .fields) g) (marked marks (fieldFor (c .fields) g))
     filled-notes g u =
         let few = field-few (c .fields) g in
         w .notes g u ∙ rw (lt-ltb (fieldFor (c .fields) g) f (omega arith))

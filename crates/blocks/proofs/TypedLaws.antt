@@ -18,7 +18,7 @@ use Rattle.layouts.specs.Offsets.{runAt, traceAt, groupsAt}
 use Rattle.layouts.specs.Layouts.{octet, times, counted, format, kindOf}
 use Rattle.layouts.specs.Ends.{kindEnd, endOf}
 use Rattle.layouts.specs.Tables.{counter, version, layout}
-use Rattle.layouts.specs.Categories.{Category, known, category, layoutAt}
+use Rattle.layouts.specs.Categories.{Category, known, category, layoutAt, entriesForm}
 use Rattle.layouts.specs.declared.ends.End.the-variants.{At}
 use Rattle.layouts.specs.declared.form.Form.{Form}
 use Rattle.layouts.proofs.KindEnds.{forms-sound, kind-end, end-room}
@@ -31,7 +31,7 @@ use Rattle.blocks.specs.Specification.{flags}
 use Rattle.blocks.specs.Marks.{marksOf, flagsOf, marked, groupsOf}
 use Rattle.blocks.specs.Records.{Rec, formats, layoutOf}
 use Rattle.blocks.specs.Offsets.{specsAt, itemsAt, recordAt}
-use Rattle.blocks.specs.Typed.{entriesForm, typed, fieldFor, placeIn, startIn, valuesFor, startFor, typedRec}
+use Rattle.blocks.specs.Typed.{typed, fieldFor, placeIn, startIn, valuesFor, startFor, typedRec}
 use Rattle.blocks.specs.Steps.{itemsFrom, entryGroupOf, entryValues}
 use Rattle.blocks.specs.declared.record.Record.{Record}
 use Rattle.blocks.proofs.AtEnd.{end-value, end-place}

@@ -12,14 +12,15 @@ use Rattle.layouts.specs.Formats.{got}
 use Rattle.layouts.specs.Offsets.{traceAt}
 use Rattle.layouts.specs.Layouts.{isUnused, format}
 use Rattle.layouts.specs.Tables.{layout}
-use Rattle.layouts.specs.Categories.{known, category}
+use Rattle.layouts.specs.Categories.{known, category, entriesForm}
 use Rattle.layouts.specs.declared.form.Form.{Form}
 use Rattle.items.specs.Typed.{placeAt}
+use Rattle.blocks.specs.Forms.{formNumber}
 use Rattle.blocks.specs.Specification.{flags}
 use Rattle.blocks.specs.Marks.{marksOf, groupsOf}
 use Rattle.blocks.specs.Records.{Rec}
 use Rattle.blocks.specs.Offsets.{recordAt}
-use Rattle.blocks.specs.Typed.{entriesForm, formPlace, typed, typedBy, typedRec}
+use Rattle.blocks.specs.Typed.{typed, typedBy, typedRec}
 use Rattle.blocks.specs.Steps.{itemsFrom}
 use Rattle.blocks.proofs.BlockLaws.{category-number}
 use Rattle.blocks.proofs.RecordStarts.{Filled, filled-notes}
@@ -60,7 +61,7 @@ module _ (s : List ℕ) (len number at : ℕ) (o : Octets s) (fit : len ≤ leng
       → (p ≡ q) × (typedBy s number (marksOf (flags (x .marks))) starts ≡ typedRec s len (category number) x (w .behind))
   made-read x q w i = (
     i .here ∙ rw (w .formats-are) (w .end (f - 1) (omega arith)),
-    typed-starts s number (marksOf (flags (x .marks))) (λ g. getD starts (formPlace g) 0) (found s len number at o fit k x (w .behind))
+    typed-starts s number (marksOf (flags (x .marks))) (λ g. getD starts (formNumber g) 0) (found s len number at o fit k x (w .behind))
         (λ g u. filled-notes s len (category number) _ _ starts p f i over g u ∙ rw (w .formats-are))
         ∙ ap
         (λ (n : ℕ). typed n (marksOf (flags (x .marks)))

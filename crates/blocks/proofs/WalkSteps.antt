@@ -4,11 +4,12 @@ use mathlib.Core.Path.{_≡_, refl, sym, ap, _∙_, subst}
 use mathlib.Core.Bool.{Bool, true, false, _&&_, _||_, false≢true, true≢false, and-false}
 use mathlib.Core.List.{List, [], _∷_, _++_}
 use Prim.Native.Nat.{ℕ, zero, suc, _+_, _-_, _*_, _≤_, _<_}
-use native.Mathlib.Nat.{zero-add, add-zero, suc-add, add-suc}
+use native.Mathlib.Nat.{sub-self}
 use native.Mathlib.Omega.{arith}
 use borrow.Author.Tests.{eqb-true, lt-leb, le-leb, eq-eqb, ne-eqb}
 use lib.Dec.{eqb}
-use lib.ListN.{length, getD, drop, replicate}
+use lib.ListN.{length, getD, drop, replicate, length-drop, drop-of-length-le}
+use lib.Seq.{drop-nil, drop-drop, drop-cons, getD-drop}
 use Rattle.octets.specs.Choice.{pick}
 use Rattle.octets.specs.Numbers.{Octets, number}
 use Rattle.octets.specs.Refusals.{longSpecification, spareMarked, noneMarked, presenceBroken}
@@ -16,11 +17,11 @@ use Rattle.octets.proofs.Cases.{choose, neither}
 use Rattle.layouts.specs.Groups.{values}
 use Rattle.layouts.specs.Formats.{Answer, refused, got, andThen, Format, done, Trace, fitsIn}
 use Rattle.layouts.specs.Offsets.{runAt, itemAt, traceAt}
-use Rattle.layouts.specs.Layouts.{format, isUnused}
+use Rattle.layouts.specs.Layouts.{Layout, unused, fixed, extended, repeated, explicit, isUnused, chain, counted, format}
 use Rattle.layouts.specs.Ends.{endOf, chainEnd}
 use Rattle.layouts.specs.Tables.{layout}
-use Rattle.layouts.specs.Categories.{Category, known, category}
-use Rattle.layouts.proofs.Answers.{pick-yes, through}
+use Rattle.layouts.specs.Categories.{Category, known, category, formAt}
+use Rattle.layouts.proofs.Answers.{got-refused, pick-yes, through}
 use Rattle.layouts.proofs.Windows.{run-trace, run-within}
 use Rattle.layouts.proofs.KindEnds.{end-then}
 use Rattle.layouts.specs.declared.ends.End.{End}
@@ -28,11 +29,13 @@ use Rattle.layouts.specs.declared.ends.End.the-variants.{At, Refused}
 use Rattle.layouts.specs.declared.form.Form.{Form}
 use Rattle.blocks.specs.Specification.{flags}
 use Rattle.blocks.specs.Presence.{rowsOf, meets}
-use Rattle.blocks.specs.Marks.{marksOf, flagsOf, groupsOf}
-use Rattle.blocks.specs.Records.{Rec, formats, marksSpare, layoutOf, marksRefusal, numberRefusal, typeOf, present}
+use Rattle.blocks.specs.Marks.{marksOf, flagsOf, groupsOf, nextMarked}
+use Rattle.blocks.specs.Records.{Rec, formats, marksSpare, layoutOf, marksRefusal, numberRefusal, isType, valueOr, typeIn, typeOf, present}
 use Rattle.blocks.specs.Offsets.{specsAt, itemsAt, recordAt}
-use Rattle.blocks.specs.Walks.{nextEnd, onward, runOf, itemsOf, afterItems, restOf}
+use Rattle.blocks.specs.Walks.{onward, runOf, afterItems, restOf}
 use Rattle.blocks.specs.declared.walk.Walked.{Walked}
+use Rattle.items.specs.Typed.{val}
+use Rattle.blocks.proofs.NextLaws.{next-within, next-marked}
 use Rattle.blocks.proofs.MarksLaws.{flags-32, formats-more, spare-more, meets-more, flags-long, Marked, specs-marked, spec-end}
 
 -- what holds of the three categories holds of every one that is read
@@ -74,10 +77,6 @@ module _ {A : Type 0} where
   ended (refused n) h = subst (Ended (refused n)) (sym h) refl
   ended (got a q) h = subst (Ended (got a q)) (sym h) (a, refl)
 
--- an offset of the block is an end within it
-pub at-within : (len at : ℕ) → at ≤ len → (p : ℕ) → At at ≡ At p → p ≤ len
-at-within len at l p h = let e : at ≡ p = cc in omega arith
-
 module _ (s : List ℕ) (len : ℕ) where
   pub item-run : (f : Format) (at q : ℕ) (tr : Trace) → itemAt s len f at ≡ got tr q → runAt s len f at ≡ got tr q
   unfolding itemAt
@@ -86,7 +85,7 @@ module _ (s : List ℕ) (len : ℕ) where
       w .2 ∙ pick-yes (fitsIn f (w .0)) _ _ (w .3) .1
 
   -- an item ends where it begins or behind, and within the block; so do items one after the other
-  item-within : (f : Format) (at q : ℕ) → at ≤ len → At q ≡ endOf (itemAt s len f at) → (at ≤ q) × (q ≤ len)
+  pub item-within : (f : Format) (at q : ℕ) → at ≤ len → At q ≡ endOf (itemAt s len f at) → (at ≤ q) × (q ≤ len)
   item-within f at q l h =
       let w = ended (itemAt s len f at) h in
       run-within s len f at (w .0) q l (item-run f at q (w .0) (w .1))
@@ -102,164 +101,174 @@ module _ (s : List ℕ) (len : ℕ) where
       let (a', b') = items-within fs p q' trs' b e' in
       (omega arith, omega arith)
 
-  pub items-end-within : (fs : List Format) (at q : ℕ) → at ≤ len → At q ≡ endOf (itemsAt s len fs at) → (at ≤ q) × (q ≤ len)
-  items-end-within fs at q l h = let w = ended (itemsAt s len fs at) h in items-within fs at q (w .0) l (w .1)
+-- The type of a record, behind one item more
 
-  -- the value of item 000 is its octet
-  type-value : (at q : ℕ) (tr : Trace) → itemAt s len (format (layout Form.MessageType)) at ≡ got tr q
-      → (x : ℕ) → (x ≡ getD s (at + 0) 0) × (x < 256) → x ≡ getD (getD tr 0 []) 0 0
-  unfolding format traceAt values number
-  type-value at q tr h x o =
-      rw (run-trace s len (format (layout Form.MessageType)) at tr q (item-run (format (layout Form.MessageType)) at q tr h)) (omega arith)
+pick-same : {A : Type 0} (b : Bool) (a : A) → pick b a a ≡ a
+pick-same true a = refl
+pick-same false a = refl
 
-  -- an end behind one field more lies within the block as the one before it
-  next-within : (b : Bool) (f : Form) (e : End) → ((p : ℕ) → e ≡ At p → p ≤ len) → (q : ℕ) → nextEnd s len b f e ≡ At q → q ≤ len
-  unfolding nextEnd
-  next-within b f (Refused n) l q h = let z : _≡_ {A = ℕ} 0 1 = cc in absurd (omega arith)
-  next-within true f (At p) l q h = item-within (format (layout f)) p q (l p refl) (sym h) .1
-  next-within false f (At p) l q h = at-within len p (l p refl) q h
+type-end : (t : ℕ) (fs : List Form) → typeIn t fs [] ≡ t
+type-end t [] = refl
+type-end t (f ∷ fs) = refl
 
-  pub next-is : (b : Bool) (f : Form) (e : End) → ((p : ℕ) → e ≡ At p → p ≤ len)
-      → (r : End) → r ≡ nextEnd s len b f e → (r ≡ nextEnd s len b f e) × ((q : ℕ) → r ≡ At q → q ≤ len)
-  next-is b f e l r h = (h, λ q g. next-within b f e l q (sym h ∙ g))
+-- an item that was read has a value
+value-there : (t : ℕ) (l : Layout) (s : List ℕ) (len at q : ℕ) (tr : Trace) → itemAt s len (format l) at ≡ got tr q
+    → valueOr t tr ≡ val (traceAt (format l) s at) 0 0
+unfolding itemAt runAt format chain counted traceAt
+value-there t l s len at q tr h =
+    let e = run-trace s len (format l) at tr q (item-run s len (format l) at q tr h) in
+    rw e (go l h)
+  where
+    go : (l : Layout) → itemAt s len (format l) at ≡ got tr q → valueOr t (traceAt (format l) s at) ≡ val (traceAt (format l) s at) 0 0
+    go unused h = absurd (got-refused h)
+    go (fixed g) h = refl
+    go (extended g []) h = refl
+    go (extended g (k ∷ ks)) h = refl
+    go (repeated g) h = refl
+    go explicit h = refl
 
-  -- behind the items of fields from field i + 1 on, field by field, where m says which are marked; the spare ones are left out
-  abbrev ends : (ℕ → Bool) → ℕ → List Form → End → End
-  ends m i [] e = e
-  ends m i (f ∷ fs) e = ends m (suc i) fs (pick (isUnused (layout f)) e (nextEnd s len (m i) f e))
+-- Fields and their marks
 
-  ends-refused : (m : ℕ → Bool) (i : ℕ) (fs : List Form) (n : ℕ) → ends m i fs (Refused n) ≡ Refused n
-  unfolding nextEnd
-  ends-refused m i [] n = refl
-  ends-refused m i (f ∷ fs) n =
-      choose (λ (e : End). ends m (suc i) fs e ≡ Refused n) (isUnused (layout f)) (λ u. ends-refused m (suc i) fs n) (λ u. ends-refused m (suc i) fs n)
+formats-none : (bs : List Bool) → formats bs [] ≡ []
+unfolding formats
+formats-none [] = refl
+formats-none (b ∷ bs) = refl
 
-  -- a field that is not both spare and marked is passed as its format is read
-  next-by : (b u : Bool) (f : Form) (at : ℕ) → (b && u) ≡ false
-      → pick u (At at) (nextEnd s len b f (At at)) ≡ endOf (itemAt s len (pick b (format (layout f)) done) at)
-  unfolding nextEnd itemAt runAt fitsIn
-  next-by true true f at h = absurd (true≢false h)
-  next-by true false f at h = refl
-  next-by false true f at h = refl
-  next-by false false f at h = refl
+-- where no spare field is marked, a marked one is the category's
+marked-inside : (bs : List Bool) (fs : List Form) (n : ℕ) → marksSpare bs fs ≡ false → getD bs n false ≡ true → n < length fs
+unfolding marksSpare
+marked-inside [] fs n h m = absurd (false≢true m)
+marked-inside (b ∷ bs) [] zero h m = absurd (true≢false (sym m ∙ neither b (marksSpare bs []) h .0))
+marked-inside (b ∷ bs) [] (suc n) h m = absurd (omega (arith, marked-inside bs [] n (neither b (marksSpare bs []) h .1) m))
+marked-inside (b ∷ bs) (f ∷ fs) zero h m = omega arith
+marked-inside (b ∷ bs) (f ∷ fs) (suc n) h m =
+    omega (arith, marked-inside bs fs n (neither (b && isUnused (layout f)) (marksSpare bs fs) h .1) m)
 
-  -- so the items of any fields are passed, where no spare one is marked
-  items-end : (m : ℕ → Bool) (i : ℕ) (bs : List Bool) (fs : List Form) → ((k : ℕ) → getD bs k false ≡ m (i + k)) → length fs ≤ length bs
-      → marksSpare bs fs ≡ false → (at : ℕ) → endOf (itemsAt s len (formats bs fs) at) ≡ ends m i fs (At at)
-  unfolding itemsAt formats marksSpare
-  items-end m i [] [] same l h at = refl
-  items-end m i [] (f ∷ fs) same l h at = absurd (omega arith)
-  items-end m i (b ∷ bs) [] same l h at = refl
-  items-end m i (b ∷ bs) (f ∷ fs) same l h at =
-      let (one, others) = neither (b && isUnused (layout f)) (marksSpare bs fs) h in
-      let first : b ≡ m i = rw add-zero at (same 0) in
-      rw (← first, next-by b (isUnused (layout f)) f at one)
-      (go (itemAt s len (pick b (format (layout f)) done) at)
-      (items-end m (suc i) bs fs (λ k. rw (suc-add i k, ← add-suc i k) (same (suc k))) (omega arith) others))
+no-spare : (c : Category) (marks : ℕ) → numberRefusal c marks ≡ 0 → marksSpare (flagsOf 32 marks) (c .fields) ≡ false
+no-spare c marks = go (eqb marks 0) (marksSpare (flagsOf 32 marks) (c .fields))
+  where
+    go : (none spare : Bool) → pick none noneMarked (pick spare spareMarked 0) ≡ 0 → spare ≡ false
+    go true spare h = absurd (omega arith)
+    go false true h = absurd (omega arith)
+    go false false h = refl
+
+-- The rest of a record, from a field on
+module _ (s : List ℕ) (len : ℕ) (c : Category) (marks start budget count : ℕ) where
+  -- by the fields left, with their marks
+  abbrev left : List Bool → List Form → ℕ → ℕ → Walked
+  left bs fs at typ = afterItems s len c (flagsOf 32 marks) fs typ start budget count (itemsAt s len (formats bs fs) at)
+
+  abbrev rest : ℕ → ℕ → ℕ → Walked
+  rest f at typ = restOf s len c (flagsOf 32 marks) f at typ start budget count
+
+  -- a field that is not marked has no item
+  left-unmarked : (f : Form) (bs : List Bool) (fs : List Form) (at typ : ℕ) → left (false ∷ bs) (f ∷ fs) at typ ≡ left bs fs at typ
+  unfolding itemsAt formats itemAt runAt fitsIn
+  left-unmarked f bs fs at typ = go (itemsAt s len (formats bs fs) at)
     where
-      go : (a : Answer ℕ Trace) → ((p : ℕ) → endOf (itemsAt s len (formats bs fs) p) ≡ ends m (suc i) fs (At p))
-          → endOf (andThen a (λ tr p. andThen (itemsAt s len (formats bs fs) p) (λ trs q. got (tr ∷ trs) q))) ≡ ends m (suc i) fs (endOf a)
-      go (refused n) ih = sym (ends-refused m (suc i) fs n)
-      go (got tr p) ih = rw (end-then (λ (trs : List Trace). tr ∷ trs)) (ih p)
+      go : (a : Answer ℕ (List Trace))
+          → afterItems s len c (flagsOf 32 marks) (f ∷ fs) typ start budget count (andThen a (λ trs q. got ([] ∷ trs) q))
+          ≡ afterItems s len c (flagsOf 32 marks) fs typ start budget count a
+      go (refused n) = refl
+      go (got trs q) = rw (pick-same (isType f) typ)
 
-  -- the first two fields of a record that has a type: its item 000 was read behind the item of field 1
-  record Two (b b' : Bool) (at : ℕ) (trs : List Trace) : Type 0 where
-    pub p : ℕ
-    pub before : nextEnd s len b Form.Source (At at) ≡ At p
-    pub q : ℕ
-    pub there : itemAt s len (pick b' (format (layout Form.MessageType)) done) p ≡ got (getD trs 1 []) q
+  -- so the walk may go to the next field that is marked
+  left-next : (bs : List Bool) (fs : List Form) (f at typ : ℕ)
+      → left (drop (nextMarked bs f - f) bs) (drop (nextMarked bs f - f) fs) at typ ≡ left bs fs at typ
+  unfolding nextMarked
+  left-next [] fs f at typ = rw sub-self
+  left-next (true ∷ bs) fs f at typ = rw sub-self
+  left-next (false ∷ bs) [] f at typ = rw (drop-nil, formats-none, formats-none)
+  left-next (false ∷ bs) (g ∷ fs) f at typ =
+      let low = next-within bs (suc f) .0 in
+      let e : nextMarked bs (suc f) - f ≡ suc (nextMarked bs (suc f) - suc f) = omega arith in
+      rw e (left-next bs fs (suc f) at typ ∙ sym (left-unmarked g bs fs at typ))
 
-  first-two : (b b' : Bool) (bs : List Bool) (fs : List Form) (at q : ℕ) (trs : List Trace)
-      → itemsAt s len (formats (b ∷ b' ∷ bs) (Form.Source ∷ Form.MessageType ∷ fs)) at ≡ got trs q → Two b b' at trs
-  unfolding formats itemsAt
-  first-two b b' bs fs at q trs h =
-      let (tr, p, e, h') = through (itemAt s len (pick b (format (layout Form.Source)) done) at) h in
-      let (trs', r, e', end) = through (itemsAt s len (formats (b' ∷ bs) (Form.MessageType ∷ fs)) p) h' in
-      let (tr', p', there, h'') = through (itemAt s len (pick b' (format (layout Form.MessageType)) done) p) e' in
-      let (others, r', e'', end') = through (itemsAt s len (formats bs fs) p') h'' in
-      let is : tr ∷ tr' ∷ others ≡ trs = cc in
-      record {
-        p = p;
-        before = next-by b false Form.Source at (and-false b) ∙ ap endOf e;
-        q = p';
-        there = there ∙ ap (λ (l : List Trace). got (getD l 1 []) p') is;
-      }
+  -- an item of a marked field: its refusal, or the rest behind it
+  module _ (f : Form) (bs : List Bool) (fs : List Form) (at typ : ℕ) where
+    left-refused : (n : ℕ) → itemAt s len (format (layout f)) at ≡ refused n → Walked.Refused n start ≡ left (true ∷ bs) (f ∷ fs) at typ
+    unfolding itemsAt formats
+    left-refused n h = rw h
 
--- The items of a record, field by field
-module _ (s : List ℕ) (len : ℕ) (c : Category) (marks at : ℕ) where
-  abbrev items : Answer ℕ (List Trace)
-  items = itemsOf s len c (flagsOf 32 marks) at
+    left-passed : (tr : Trace) (q : ℕ) → itemAt s len (format (layout f)) at ≡ got tr q
+        → left bs fs q (pick (isType f) (valueOr typ tr) typ) ≡ left (true ∷ bs) (f ∷ fs) at typ
+    unfolding itemsAt formats
+    left-passed tr q h = rw h (go (itemsAt s len (formats bs fs) q))
+      where
+        go : (a : Answer ℕ (List Trace))
+            → afterItems s len c (flagsOf 32 marks) fs (pick (isType f) (valueOr typ tr) typ) start budget count a
+            ≡ afterItems s len c (flagsOf 32 marks) (f ∷ fs) typ start budget count (andThen a (λ trs q. got (tr ∷ trs) q))
+        go (refused n) = refl
+        go (got trs q) = refl
 
-  -- the end that the code goes to is that of the items
-  pub items-passed : length (c .fields) ≤ 32 → numberRefusal c marks ≡ 0
-      → (r : End) → r ≡ ends s len (λ i. getD (flagsOf 32 marks) i false) 0 (c .fields) (At at) → r ≡ endOf items
-  unfolding flagsOf
-  items-passed l h r e =
-      let bs = flagsOf 32 marks in
-      e ∙ sym (items-end s len (λ i. getD bs i false) 0 bs (c .fields) (λ k. rw zero-add) l (go (eqb marks 0) (marksSpare bs (c .fields)) h) at)
-    where
-      go : (none spare : Bool) → pick none noneMarked (pick spare spareMarked 0) ≡ 0 → spare ≡ false
-      go true spare h = absurd (omega arith)
-      go false true h = absurd (omega arith)
-      go false false h = refl
-
-  module _ (n : ℕ) (t : Table n c) (trs : List Trace) (q : ℕ) (is : items ≡ got trs q) where
-    pub type-none : n ≡ 242 → 0 ≡ typeOf c trs
-    type-none h = rw (t .number, h)
-
-    module _ (other : n ≡ 242 → ⊥) where
-      abbrev first : Bool
-      first = getD (flagsOf 32 marks) 0 false
-
-      abbrev second : Bool
-      second = getD (flagsOf 32 marks) 1 false
-
-      two : Two s len first second at trs
-      unfolding flagsOf
-      two = first-two s len first second (drop 2 (flagsOf 32 marks)) (drop 2 (c .fields)) at q trs (rw (t .typed (ne-eqb n 242 other)) at is)
-
-      is-typed : (x : ℕ) → x ≡ getD (getD (getD trs 1 []) 0 []) 0 0 → x ≡ typeOf c trs
-      is-typed x h = rw (t .number, ne-eqb n 242 other) h
-
-      pub type-unmarked : second ≡ false → 0 ≡ typeOf c trs
-      unfolding itemAt runAt fitsIn
-      type-unmarked m =
-          let h = two .there in
-          let none : [] ≡ getD trs 1 [] = cc (rw m at h) in
-          is-typed 0 (rw (← none))
-
-      module _ (e : End) (past : e ≡ nextEnd s len first Form.Source (At at)) where
-        pub type-octet : second ≡ true → (p : ℕ) → e ≡ At p → (x : ℕ) → (x ≡ getD s (p + 0) 0) × (x < 256) → x ≡ typeOf c trs
-        type-octet m p h x o =
-            let same : two .p ≡ p = cc (two .before) in
-            is-typed x (type-value s len p (two .q) (getD trs 1 []) (rw (m, same) at (two .there)) x o)
-
-        pub type-refused : (w : ℕ) → e ≡ Refused w → 0 ≡ typeOf c trs
-        type-refused w h = let z : _≡_ {A = ℕ} 0 1 = cc (two .before) in absurd (omega arith)
-
-  -- The rest of the record
-  module _ (start budget count : ℕ) where
-    abbrev rest : Walked
-    rest = restOf s len c (flagsOf 32 marks) at start budget count
-
-    pub rest-refused : (w : ℕ) → Refused w ≡ endOf items → Walked.Refused w start ≡ rest
+  -- the code's field, the next that is marked, or 33
+  module _ (field f at typ : ℕ) (low : 1 ≤ field) (is : (f ≡ nextMarked (drop (field - 1) (flagsOf 32 marks)) field) × (field ≤ f) × (f ≤ 33)) where
+    rest-next : rest f at typ ≡ rest field at typ
     unfolding restOf
-    rest-refused w h = rw (ended items h)
+    rest-next =
+        let n = nextMarked (drop (field - 1) (flagsOf 32 marks)) field in
+        let e : field - 1 + (n - field) ≡ f - 1 = omega (arith, is .0, is .1) in
+        rw (drop-drop (n - field) (field - 1) (flagsOf 32 marks), drop-drop (n - field) (field - 1) (c .fields), e)
+        at (left-next (drop (field - 1) (flagsOf 32 marks)) (drop (field - 1) (c .fields)) field at typ)
 
-    module _ (q : ℕ) (end : At q ≡ endOf items) (x : ℕ) (typed : (trs : List Trace) (q : ℕ) → items ≡ got trs q → x ≡ typeOf c trs)
-        (n : ℕ) (t : Table n c) where
-      rest-read : pick (meets (rowsOf n) x (flagsOf 32 marks)) (runOf s len c budget q (count + 1)) (Walked.Refused presenceBroken start) ≡ rest
+    -- behind the last item
+    module _ (over : 32 < f) (n : ℕ) (t : Table n c) where
+      rest-over : pick (meets (rowsOf n) typ (flagsOf 32 marks)) (runOf s len c budget at (count + 1)) (Walked.Refused presenceBroken start)
+          ≡ rest field at typ
+      unfolding restOf flagsOf formats itemsAt
+      rest-over =
+          let none : drop (f - 1) (flagsOf 32 marks) ≡ [] = drop-of-length-le (flagsOf 32 marks) {i = f - 1} (omega arith) in
+          rw (← rest-next, none, type-end, t .number)
+
+      pub rest-present : meets (rowsOf n) typ (flagsOf 32 marks) ≡ true → (r : Walked) → r ≡ runOf s len c budget at (count + 1) → r ≡ rest field at typ
+      rest-present m r e = e ∙ (rw m at rest-over)
+
+      pub rest-absent : meets (rowsOf n) typ (flagsOf 32 marks) ≡ false → Walked.Refused presenceBroken start ≡ rest field at typ
+      rest-absent m = rw m at rest-over
+
+    -- at an item
+    module _ (more : f ≤ 32) (fine : numberRefusal c marks ≡ 0) where
+      abbrev one : Answer ℕ Trace
+      one = itemAt s len (format (layout (formAt c f))) at
+
+      here : getD (flagsOf 32 marks) (f - 1) false ≡ true
+      unfolding flagsOf
+      here =
+          let n = nextMarked (drop (field - 1) (flagsOf 32 marks)) field in
+          let e : field - 1 + (n - field) ≡ f - 1 = omega (arith, is .0, is .1) in
+          let few : length (drop (field - 1) (flagsOf 32 marks)) ≡ 33 - field = simp length-drop (omega arith) in
+          rw (getD-drop, e) at (next-marked (drop (field - 1) (flagsOf 32 marks)) field (omega (arith, is .0)))
+
+      fields-here : drop (f - 1) (c .fields) ≡ formAt c f ∷ drop f (c .fields)
+      fields-here =
+          let inside = marked-inside (flagsOf 32 marks) (c .fields) (f - 1) (no-spare c marks fine) here in
+          let e : f ≡ suc (f - 1) = omega (arith, is .1) in
+          subst (λ (g : ℕ). drop (f - 1) (c .fields) ≡ formAt c g ∷ drop g (c .fields)) (sym e)
+          (drop-cons (c .fields) (f - 1) Form.Spare inside)
+
+      marks-here : drop (f - 1) (flagsOf 32 marks) ≡ true ∷ drop f (flagsOf 32 marks)
+      unfolding flagsOf
+      marks-here =
+          let e : f ≡ suc (f - 1) = omega (arith, is .1) in
+          drop-cons (flagsOf 32 marks) (f - 1) false (omega arith) ∙ rw (here, ← e)
+
+      pub rest-refused : (w : ℕ) → Refused w ≡ endOf one → Walked.Refused w start ≡ rest field at typ
       unfolding restOf
-      rest-read =
-          let w = ended items end in
-          rw (w .1, ← typed (w .0) q (w .1), t .number)
+      rest-refused w h =
+          rw (← rest-next, fields-here, marks-here)
+          (left-refused (formAt c f) (drop f (flagsOf 32 marks)) (drop f (c .fields)) at typ w (ended one h))
 
-      pub rest-present : meets (rowsOf n) x (flagsOf 32 marks) ≡ true
-          → (r : Walked) → r ≡ runOf s len c budget q (count + 1) → r ≡ rest
-      rest-present m r is = is ∙ (rw m at rest-read)
-
-      pub rest-absent : meets (rowsOf n) x (flagsOf 32 marks) ≡ false → Walked.Refused presenceBroken start ≡ rest
-      rest-absent m = rw m at rest-read
+      pub rest-passed : (q : ℕ) → At q ≡ endOf one → (x : ℕ) → x ≡ pick (isType (formAt c f)) (val (traceAt (format (layout (formAt c f))) s at) 0 0) typ
+          → (r : Walked) → r ≡ rest (f + 1) q x → r ≡ rest field at typ
+      unfolding restOf
+      rest-passed q h x e r same =
+          let w = ended one h in
+          let typed : x ≡ pick (isType (formAt c f)) (valueOr typ (w .0)) typ
+          = e ∙ rw (value-there typ (layout (formAt c f)) s len at q (w .0) (w .1)) in
+          let n : f + 1 - 1 ≡ f = omega arith in
+          same
+          ∙ rw (← rest-next, n, typed, fields-here, marks-here)
+          (left-passed (formAt c f) (drop f (flagsOf 32 marks)) (drop f (c .fields)) at typ (w .0) q (w .1))
 
 module _ (s : List ℕ) (len : ℕ) (c : Category) (at : ℕ) where
   module _ (budget count : ℕ) where
@@ -329,7 +338,7 @@ module _ (s : List ℕ) (len : ℕ) (c : Category) (at : ℕ) where
     unfolding recordAt
     record-unmarked h = rw (sp .is, ← same-refusal, ne-eqb w 0 h) at (run-one s len c at budget count (budget - 1) some more)
 
-    pub record-items : w ≡ 0 → (r : Walked) → r ≡ restOf s len c (flagsOf 32 marks) p at (budget - 1) count
+    pub record-items : w ≡ 0 → (r : Walked) → r ≡ restOf s len c (flagsOf 32 marks) 1 p 0 at (budget - 1) count
         → r ≡ runOf s len c budget at count
     unfolding recordAt restOf layoutOf present
     record-items h r e =
@@ -350,7 +359,7 @@ module _ (s : List ℕ) (len : ℕ) (c : Category) (at : ℕ) where
         either false rc q = refl
 
         go : (a : Answer ℕ (List Trace))
-            → afterItems s len c (flags gs ++ replicate others false) at (budget - 1) count a
+            → afterItems s len c (flags gs ++ replicate others false) (c .fields) 0 at (budget - 1) count a
             ≡ onward s len c at
             (andThen a (λ trs q. pick (met trs) (got (record { marks = gs; items = trs }) q) (refused presenceBroken))) next
         go (refused x) = refl

@@ -1,3 +1,4 @@
+pub mod Forms
 pub mod Specification
 pub mod Presence
 pub mod Marks

@@ -24,6 +24,11 @@ unfoldable pub groupsOf : ℕ → List ℕ → ℕ → List ℕ
 groupsOf zero s at = []
 groupsOf (suc n) s at = getD s at 0 / 2 ∷ groupsOf n s (at + 1)
 
+-- of fields with these marks, the first of number f, the first that is marked; the number behind them where none is
+unfoldable pub nextMarked : List Bool → ℕ → ℕ
+nextMarked [] f = f
+nextMarked (b ∷ bs) f = pick b f (nextMarked bs (suc f))
+
 -- of n fields, each that the first number marks is marked in the second
 unfoldable pub hasAll : ℕ → ℕ → ℕ → Bool
 hasAll zero m k = true

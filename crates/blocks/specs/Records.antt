@@ -11,6 +11,7 @@ use Rattle.layouts.specs.Layouts.{isUnused, format}
 use Rattle.layouts.specs.Tables.{layout}
 use Rattle.layouts.specs.Categories.{Category}
 use Rattle.layouts.specs.declared.form.Form.{Form}
+use Rattle.blocks.specs.Forms.{formNumber}
 use Rattle.blocks.specs.Specification.{specs, zeros, putMarks, flags}
 use Rattle.blocks.specs.Marks.{flagsOf}
 use Rattle.blocks.specs.Presence.{rowsOf, meets}
@@ -44,9 +45,24 @@ marksRefusal c gs = pick (zeros gs) noneMarked (pick (marksSpare (flags gs) (c .
 abbrev pub numberRefusal : Category → ℕ → ℕ
 numberRefusal c m = pick (eqb m 0) noneMarked (pick (marksSpare (flagsOf 32 m) (c .fields)) spareMarked 0)
 
--- the record's type: the value of item 000, field 2; category 242 has none
+-- item 000
+abbrev pub isType : Form → Bool
+isType f = eqb (formNumber f) (formNumber Form.MessageType)
+
+-- the first value of an item, and t where it has none
+abbrev pub valueOr : ℕ → Trace → ℕ
+valueOr t [] = t
+valueOr t (v ∷ tr) = getD v 0 0
+
+-- the type that the items of fields give: the value of item 000, and t where it is not there
+abbrev pub typeIn : ℕ → List Form → List Trace → ℕ
+typeIn t [] trs = t
+typeIn t (f ∷ fs) [] = t
+typeIn t (f ∷ fs) (tr ∷ trs) = typeIn (pick (isType f) (valueOr t tr) t) fs trs
+
+-- the record's type; category 242 has no item 000
 abbrev pub typeOf : Category → List Trace → ℕ
-typeOf c trs = pick (eqb (c .number) 242) 0 (getD (getD (getD trs 1 []) 0 []) 0 0)
+typeOf c trs = typeIn 0 (c .fields) trs
 
 unfoldable pub present : Category → List ℕ → List Trace → Bool
 present c gs trs = meets (rowsOf (c .number)) (typeOf c trs) (flags gs)

@@ -8,11 +8,11 @@ use Rattle.layouts.specs.Formats.{Answer, refused, got, Format, Trace}
 use Rattle.layouts.specs.Offsets.{runAt, traceAt}
 use Rattle.layouts.specs.Layouts.{format}
 use Rattle.layouts.specs.Tables.{layout}
-use Rattle.layouts.specs.Categories.{Category}
+use Rattle.layouts.specs.Categories.{Category, entriesForm}
 use Rattle.layouts.specs.declared.form.Form.{Form}
-use Rattle.layouts.specs.declared.form.Form.the-variants as form
 use Rattle.items.specs.Typed.{val, sourceOf, serviceOf, timeOf, sdpsOf, stationOf, configurationOf, placeAt}
 use Rattle.items.specs.declared.typed.Place.{Place}
+use Rattle.blocks.specs.Forms.{formNumber}
 use Rattle.blocks.specs.Specification.{flags}
 use Rattle.blocks.specs.Marks.{marksOf}
 use Rattle.blocks.specs.Records.{Rec, layoutOf}
@@ -20,10 +20,6 @@ use Rattle.blocks.specs.declared.record.Record.{Record}
 
 abbrev pub nowhere : Place
 nowhere = record { at = 0; count = 0 }
-
--- the form of a category's entries: 242/550 or 23/120
-abbrev pub entriesForm : ℕ → Form
-entriesForm number = pick (eqb number 242) Form.Versions Form.Statistics
 
 -- the record of a category with these marks, of each item's values and of the places of entries and content: `place` is given an item's
 -- form and how many more than these its count octet has
@@ -52,26 +48,6 @@ typed number marks values place = record {
 abbrev pub absent : Record
 absent = typed 0 0 (λ f. []) (λ f e. nowhere)
 
--- a form's place among the forms
-abbrev pub formPlace : Form → ℕ
-formPlace form.Spare = 0
-formPlace form.Source = 1
-formPlace form.MessageType = 2
-formPlace form.Service = 3
-formPlace form.Identification = 4
-formPlace form.Time = 5
-formPlace form.Batch = 6
-formPlace form.Sdps = 7
-formPlace form.Report = 8
-formPlace form.Station = 9
-formPlace form.Configuration = 10
-formPlace form.Range = 11
-formPlace form.Status = 12
-formPlace form.Statistics = 13
-formPlace form.Versions = 14
-formPlace form.Expansion = 15
-formPlace form.Purpose = 16
-
 -- the field after one; after none there is none
 abbrev pub fieldAfter : ℕ → ℕ
 fieldAfter zero = 0
@@ -80,7 +56,7 @@ fieldAfter (suc f) = suc (suc f)
 -- the number of the field of a form, from 1; 0 where there is none
 abbrev pub fieldFor : List Form → Form → ℕ
 fieldFor [] f = 0
-fieldFor (g ∷ gs) f = pick (eqb (formPlace g) (formPlace f)) 1 (fieldAfter (fieldFor gs f))
+fieldFor (g ∷ gs) f = pick (eqb (formNumber g) (formNumber f)) 1 (fieldAfter (fieldFor gs f))
 
 -- Of a record that was read, its items behind an offset
 
@@ -112,9 +88,9 @@ module _ (s : List ℕ) (len : ℕ) (c : Category) (r : Rec) (at : ℕ) where
   unfoldable pub typedRec : Record
   typedRec = typed (c .number) (marksOf (flags (r .marks))) (valuesFor c r) (λ f e. placeIn (startFor f) e (valuesFor c r f))
 
--- Of octets, the items that start at these offsets, by the places of their forms; one that is not there starts at the end of the octets, where
+-- Of octets, the items that start at these offsets, by the numbers of their forms; one that is not there starts at the end of the octets, where
 -- everything is zero
 abbrev pub typedBy : List ℕ → ℕ → ℕ → List ℕ → Record
 typedBy s number marks starts =
-    let start : Form → ℕ = λ f. getD starts (formPlace f) 0 in
+    let start : Form → ℕ = λ f. getD starts (formNumber f) 0 in
     typed number marks (λ f. traceAt (format (layout f)) s (start f)) (λ f e. placeAt s (start f) e)

@@ -1,23 +1,17 @@
 -- A run of records, so many at most, and the answer of reading a block.
 use mathlib.Core.Bool.{Bool}
 use mathlib.Core.List.{List}
-use Prim.Native.Nat.{ℕ, zero, suc, _+_}
+use Prim.Native.Nat.{ℕ, zero, suc, _+_, _-_}
 use lib.Dec.{leb}
-use lib.ListN.{length}
+use lib.ListN.{length, drop}
 use Rattle.octets.specs.Choice.{pick}
 use Rattle.octets.specs.Numbers.{number}
 use Rattle.octets.specs.Refusals.{presenceBroken}
 use Rattle.layouts.specs.Formats.{Answer, refused, got, Trace}
-use Rattle.layouts.specs.Layouts.{format}
-use Rattle.layouts.specs.Offsets.{itemAt}
-use Rattle.layouts.specs.Ends.{endOf}
-use Rattle.layouts.specs.Tables.{layout}
 use Rattle.layouts.specs.Categories.{Category, category}
-use Rattle.layouts.specs.declared.ends.End.{End}
-use Rattle.layouts.specs.declared.ends.End.the-variants.{At, Refused}
 use Rattle.layouts.specs.declared.form.Form.{Form}
 use Rattle.blocks.specs.Presence.{rowsOf, meets}
-use Rattle.blocks.specs.Records.{Rec, formats, typeOf}
+use Rattle.blocks.specs.Records.{Rec, formats, typeIn}
 use Rattle.blocks.specs.Blocks.{Block, wrong, all, blockOf}
 use Rattle.blocks.specs.Offsets.{itemsAt, recordAt, recordsAt}
 use Rattle.blocks.specs.Headers.{headerOf}
@@ -26,11 +20,6 @@ use Rattle.blocks.specs.declared.header.Head.the-variants as head
 use Rattle.blocks.specs.declared.walk.Walked.{Walked}
 use Rattle.blocks.specs.declared.walk.Reading.{Reading}
 use Rattle.blocks.specs.declared.walk.Reading.the-variants as reading
-
--- behind one field more: its item ends there where it is marked; a refusal stays
-unfoldable pub nextEnd : List ℕ → ℕ → Bool → Form → End → End
-nextEnd s len b f (Refused n) = End.Refused n
-nextEnd s len b f (At p) = pick b (endOf (itemAt s len (format (layout f)) p)) (End.At p)
 
 module _ (s : List ℕ) (len : ℕ) (c : Category) where
   abbrev pub onward : ℕ → Answer ℕ Rec → (ℕ → Walked) → Walked
@@ -44,18 +33,17 @@ module _ (s : List ℕ) (len : ℕ) (c : Category) where
       let next = onward at (recordAt s len c at) (λ q. runOf budget q (count + 1)) in
       pick (leb len at) (Walked.To at count) next
 
-  -- the items of a record with these marks
-  abbrev pub itemsOf : List Bool → ℕ → Answer ℕ (List Trace)
-  itemsOf bs at = itemsAt s len (formats bs (c .fields)) at
+  -- the items of the fields fs have been read, of a record with these marks and the type so far: presence, and then the run's next records
+  abbrev pub afterItems : List Bool → List Form → ℕ → ℕ → ℕ → ℕ → Answer ℕ (List Trace) → Walked
+  afterItems marks fs typ start budget count (refused n) = Walked.Refused n start
+  afterItems marks fs typ start budget count (got trs q) =
+      pick (meets (rowsOf (c .number)) (typeIn typ fs trs) marks) (runOf budget q (count + 1)) (Walked.Refused presenceBroken start)
 
-  -- the rest of a record whose items have been read, and then the run's next records
-  abbrev pub afterItems : List Bool → ℕ → ℕ → ℕ → Answer ℕ (List Trace) → Walked
-  afterItems bs start budget count (refused n) = Walked.Refused n start
-  afterItems bs start budget count (got trs q) =
-      pick (meets (rowsOf (c .number)) (typeOf c trs) bs) (runOf budget q (count + 1)) (Walked.Refused presenceBroken start)
-
-  unfoldable pub restOf : List Bool → ℕ → ℕ → ℕ → ℕ → Walked
-  restOf bs at start budget count = afterItems bs start budget count (itemsOf bs at)
+  -- the rest of a record from a field on, whose item starts at an offset, and then the run's next records
+  unfoldable pub restOf : List Bool → ℕ → ℕ → ℕ → ℕ → ℕ → ℕ → Walked
+  restOf marks f at typ start budget count =
+      let fs = drop (f - 1) (c .fields) in
+      afterItems marks fs typ start budget count (itemsAt s len (formats (drop (f - 1) marks) fs) at)
 
 -- LEN and the count of records, or the refusal with the offset of the faulty record's first octet
 abbrev pub answerOf : ℕ → Block → Reading

@@ -3,10 +3,10 @@ ghost use mathlib.Core.Path.{_≡_};
 ghost use mathlib.Core.Bool.{true, false};
 ghost use mathlib.Core.List.{[], _∷_};
 ghost use Prim.Native.Nat.{_+_, _*_, _-_, _/_, _≤_, _<_};
-ghost use lib.ListN.{length, getD};
+ghost use lib.ListN.{length, getD, drop};
 ghost use Rattle.layouts.specs.Categories.{category, known};
 ghost use Rattle.blocks.specs.Specification.{flags};
-ghost use Rattle.blocks.specs.Marks.{marksOf, flagsOf, groupsOf};
+ghost use Rattle.blocks.specs.Marks.{marksOf, flagsOf, groupsOf, nextMarked};
 ghost use Rattle.blocks.specs.Records.{marksSpare, numberRefusal};
 use octets::refusal;
 
@@ -43,6 +43,29 @@ pub fn is_marked(marks: u32, field: usize) -> bool
     ensures { λ r. ⌜ r ≡ getD (flagsOf 32 marks) (field - 1) false ⌝ }
 {
     (marks >> (field - 1)) % 2 == 1
+}
+
+// The first marked field from a field on; 33 where none is.
+pub(crate) fn next_field(marks: u32, from: usize) -> usize
+    requires { ⌜ (1 ≤ from) × (from ≤ 33) ⌝ }
+    ensures { λ r. ⌜ (r ≡ nextMarked (drop (from - 1) (flagsOf 32 marks)) from) × (from ≤ r) × (r ≤ 33) ⌝ }
+{
+    if 32 < from {
+        return 33;
+    }
+    let mut left = marks >> (from - 1);
+    if left == 0 {
+        return 33;
+    }
+    let mut f = from;
+    while f < 33 {
+        if left % 2 == 1 {
+            return f;
+        }
+        left = left / 2;
+        f += 1;
+    }
+    f
 }
 
 // A category's last field: a specification octet marks seven. Only for the next layer: the category is one that is read.

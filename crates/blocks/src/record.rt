@@ -7,14 +7,15 @@ ghost use Rattle.layouts.specs.Formats.{got};
 ghost use Rattle.layouts.specs.Offsets.{runAt};
 ghost use Rattle.layouts.specs.Layouts.{format, kindOf};
 ghost use Rattle.layouts.specs.Tables.{layout};
-ghost use Rattle.layouts.specs.Categories.{category, known};
+ghost use Rattle.layouts.specs.Categories.{category, known, entriesForm};
 ghost use Rattle.blocks.specs.Records.{Rec};
 ghost use Rattle.blocks.specs.Offsets.{recordAt};
-ghost use Rattle.blocks.specs.Typed.{entriesForm, formPlace, stopOf, typedBy, typedRec};
+ghost use Rattle.blocks.specs.Forms.{formNumber};
+ghost use Rattle.blocks.specs.Typed.{stopOf, typedBy, typedRec};
 ghost use Rattle.blocks.specs.Steps.{itemsFrom};
-use crate::marks::is_marked;
 use crate::marks::last_field;
 use crate::marks::marks_at;
+use crate::marks::next_field;
 use items::item::configuration_at;
 use items::item::octet_at;
 use items::item::place_at;
@@ -62,16 +63,16 @@ pub struct Record {
     pub purpose: Place,
 }
 
-// A record's marks, where its items start, by the places of their forms, and where the last ends.
-pub struct Starts {
+// A record's marks, where its items start, by the numbers of their forms, and where the last ends.
+pub(crate) struct Starts {
     pub marks: u32,
     pub items: [usize; 17],
     pub end: usize,
 }
 
-// A form's place among the forms.
-fn form_place(form: Form) -> usize
-    ensures { λ r. ⌜ r ≡ formPlace form ⌝ }
+// A form's number.
+fn form_number(form: Form) -> usize
+    ensures { λ r. ⌜ r ≡ formNumber form ⌝ }
 {
     match form {
         Form::Spare => 0,
@@ -95,11 +96,11 @@ fn form_place(form: Form) -> usize
 }
 
 // Where the item of a form starts.
-pub fn start_of(items: [usize; 17], form: Form) -> usize
-    ensures { λ r. ⌜ r ≡ getD items (formPlace form) 0 ⌝ }
+pub(crate) fn start_of(items: [usize; 17], form: Form) -> usize
+    ensures { λ r. ⌜ r ≡ getD items (formNumber form) 0 ⌝ }
 {
-    let place = form_place(form);
-    items[place]
+    let n = form_number(form);
+    items[n]
 }
 
 // Where an item ends; its start, where it does not end.
@@ -127,9 +128,8 @@ fn items_from(s: &[u8], len: usize, number: u8, at: usize) -> usize
     }
 }
 
-// The starts of a record at an offset: past the items of its marked fields. Only for the next layer: of a record that reading gives, these
-// make the typed record.
-pub fn starts_at(s: &[u8], len: usize, number: u8, at: usize) -> Starts
+// The starts of a record at an offset: past the items of its marked fields. Of a record that reading gives, these make the typed record.
+pub(crate) fn starts_at(s: &[u8], len: usize, number: u8, at: usize) -> Starts
     requires { ⌜ (at ≤ len) × (len ≤ length (now s)) × (known number ≡ true) ⌝ }
     ensures { λ r. ⌜ ((x : Rec) → (q : ℕ) → recordAt (now (s .entry)) len (category number) at ≡ got x q → (r .end ≡ q) × (typedBy (now (s .entry)) number (r .marks) (r .items) ≡ typedRec (now (s .entry)) len (category number) x (itemsFrom (now (s .entry)) len (category number) at))) × ((n : ℕ) → getD (r .items) n 0 ≤ length (now (s .entry))) ⌝ }
 {
@@ -139,16 +139,14 @@ pub fn starts_at(s: &[u8], len: usize, number: u8, at: usize) -> Starts
     let none = s.len();
     let mut items = [none; 17];
     let mut p = from;
-    let mut f: usize = 1;
+    let mut f = next_field(marks, 1);
     while f <= last {
-        if is_marked(marks, f) {
-            let field = field_of(number, f);
-            let form = field.0;
-            let place = form_place(form);
-            items[place] = p;
-            p = item_end(s, len, field, p);
-        }
-        f += 1;
+        let field = field_of(number, f);
+        let form = field.0;
+        let n = form_number(form);
+        items[n] = p;
+        p = item_end(s, len, field, p);
+        f = next_field(marks, f + 1);
     }
     Starts {
         marks,
@@ -194,8 +192,8 @@ fn record_by(s: &[u8], number: u8, marks: u32, items: [usize; 17]) -> Record
     }
 }
 
-// The typed record at an offset. Only for the next layer: of a record that reading gives.
-pub fn typed_record(s: &[u8], len: usize, number: u8, at: usize) -> Record
+// The typed record at an offset, of a record that reading gives.
+pub(crate) fn typed_record(s: &[u8], len: usize, number: u8, at: usize) -> Record
     requires { ⌜ (at ≤ len) × (len ≤ length (now s)) × (known number ≡ true) ⌝ }
     ensures { λ r. ⌜ ((x : Rec) → (q : ℕ) → recordAt (now (s .entry)) len (category number) at ≡ got x q → r ≡ typedRec (now (s .entry)) len (category number) x (itemsFrom (now (s .entry)) len (category number) at)) ⌝ }
 {

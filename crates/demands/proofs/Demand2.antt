@@ -10,13 +10,12 @@ use Rattle.octets.specs.Choice.{odd}
 use Rattle.octets.specs.Numbers.{Octets, number}
 use Rattle.octets.specs.Refusals.{noSuch}
 use Rattle.layouts.specs.Formats.{got}
-use Rattle.layouts.specs.Categories.{Category, category, known}
+use Rattle.layouts.specs.Categories.{Category, category, known, entriesForm}
 use Rattle.layouts.proofs.Before.{SameBefore}
 use Rattle.blocks.specs.Headers.{headerOf}
 use Rattle.blocks.specs.Records.{Rec, layoutOf, putItems, recordOf}
 use Rattle.blocks.specs.Blocks.{all, records, blockOf}
 use Rattle.blocks.specs.Walks.{readOf}
-use Rattle.blocks.specs.Typed.{entriesForm}
 use Rattle.blocks.specs.Steps.{stepOf, entryIn, entryOf}
 use Rattle.blocks.specs.Meaning.{recOf}
 use Rattle.blocks.specs.Alike.{RecordAlikeAt, RecordsAlikeAt}

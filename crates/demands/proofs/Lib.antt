@@ -2,5 +2,14 @@ pub mod Examples
 pub mod Verdicts
 pub mod Demand1
 pub mod Demand2
+pub mod Rewritten
+pub mod RewrittenPosts
 pub mod Demand3
 pub mod Unique
+pub mod Ties
+pub mod GivenBlocks
+pub mod GivenPosts
+pub mod GivenOutputs
+pub mod GivenItems
+pub mod GivenWriting
+pub mod GivenPages

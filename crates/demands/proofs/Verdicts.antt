@@ -1,14 +1,14 @@
--- Every post has its verdict (specs/Verdicts.antt). Assumes nothing.
+-- Every post has its verdict (specs/Verdicts.antt), and each verdict its number. Assumes nothing.
 use mathlib.Core.Bool.{Bool, true, false}
 use mathlib.Core.List.{List}
 use mathlib.Core.Path.{_≡_, refl, ap, sym, _∙_}
-use Prim.Native.Nat.{ℕ}
-use borrow.Author.Tests.{ltb-true, ltb-false}
+use Prim.Native.Nat.{ℕ, _≤_}
+use borrow.Author.Tests.{ltb-true, ltb-false, lt-ltb, le-ltb}
 use lib.Dec.{ltb}
 use lib.ListN.{getD}
 use Rattle.octets.specs.Numbers.{Octets}
 use Rattle.octets.specs.Choice.{pick}
-use Rattle.octets.specs.Refusals.{notStatistics, noRoom, lifePasses, rulesBroken}
+use Rattle.octets.specs.Refusals.{notStatistics, noRoom, lifePasses, rulesBroken, noSuch}
 use Rattle.octets.proofs.Cases.{test}
 use Rattle.blocks.specs.Typed.{absent}
 use Rattle.blocks.specs.Walks.{readOf}
@@ -39,47 +39,73 @@ module _ (l : Ledger) (s : List ℕ) (k n : ℕ) (o : Octets s) where
   abbrev on : Report → ℕ
   on x = postRows addUp (rowsOf l) x .number
 
+  on-refused : (m : ℕ) → on (refused m) ≡ m
+  unfolding postRows
+  on-refused m = refl
+
+  -- The number in each case
+
   broken-number : keepsRules l ≡ false → postOf l s k .number ≡ rulesBroken
   unfolding postOf
   broken-number f = rw f
 
-  kept-number : keepsRules l ≡ true → postOf l s k .number ≡ on (reportOf s k)
-  unfolding postOf
-  kept-number t = rw t
+  by-reading : keepsRules l ≡ true → (r : Reading) → readOf s ≡ r → postOf l s k .number ≡ on (reportBy s k r)
+  unfolding postOf reportOf
+  by-reading y r e = rw (y, e)
+
+  unread-number : keepsRules l ≡ true → (m at : ℕ) → readOf s ≡ Reading.Refused m at → postOf l s k .number ≡ m
+  unread-number y m at e = by-reading y _ e ∙ on-refused m
+
+  missing-number : keepsRules l ≡ true → (len count : ℕ) → readOf s ≡ Reading.Accepted len count → count ≤ k → postOf l s k .number ≡ noSuch
+  missing-number y len count e h = by-reading y _ e ∙ ap (λ x. on (reportAt s x)) (number-past s len count o e k h) ∙ on-refused noSuch
 
   -- a record that was chosen: 13, 14, 15, 0
-  module _ (t : Record) (c : Chosen l s k t) (h : n ≡ on (reportIn s t)) where
-    not-statistics : isStatistics t ≡ false → Verdict l s k n
-    unfolding reportIn postRows
-    not-statistics f = other t c f (h ∙ rw f)
-
-    counted : isStatistics t ≡ true → n ≡ on (counts (entriesOf s t))
+  module _ (t : Record) (c : Chosen l s k t) where
+    chosen-number : (b : Bool) → isStatistics t ≡ b → postOf l s k .number ≡ on (pick b (counts (entriesOf s t)) (refused notStatistics))
     unfolding reportIn
-    counted y = h ∙ ap (λ b. on (pick b (counts (entriesOf s t)) (refused notStatistics))) y
+    chosen-number b e = by-reading (c .keeps) _ (c .reading) ∙ ap (λ x. on (reportAt s x)) (c .taken) ∙ rw e
 
-    statistics : isStatistics t ≡ true → Verdict l s k n
-    statistics y =
-        let number = counts-number (rowsOf l) (entriesOf s t) in
-        test (ltb 256 (rowsFor (rowsOf l) (entriesOf s t))) (λ a. full t c y (ltb-true _ _ a) (counted y ∙ number true (passes addUp (rowsOf l) (entriesOf s t)) a refl))
-        (λ b. test (passes addUp (rowsOf l) (entriesOf s t)) (λ a. past t c y (ltb-false _ _ b) a (counted y ∙ number false true b a))
-        (λ a. added t c y (ltb-false _ _ b) a (counted y ∙ number false false b a)))
+    other-number : isStatistics t ≡ false → postOf l s k .number ≡ notStatistics
+    other-number f = chosen-number false f ∙ on-refused notStatistics
 
-    chosen : Verdict l s k n
-    chosen = test (isStatistics t) statistics not-statistics
+    module _ (y : isStatistics t ≡ true) (a b : Bool) (p : ltb 256 (rowsFor (rowsOf l) (entriesOf s t)) ≡ a)
+        (q : passes addUp (rowsOf l) (entriesOf s t) ≡ b) where
+      counted-number : postOf l s k .number ≡ pick a noRoom (pick b lifePasses 0)
+      counted-number = chosen-number true y ∙ counts-number (rowsOf l) (entriesOf s t) a b p q
 
-  by-reading : keepsRules l ≡ true → (r : Reading) → readOf s ≡ r → n ≡ on (reportBy s k r) → Verdict l s k n
-  unfolding postRows
-  by-reading y (reading.Refused m at) e h = unread y at (e ∙ ap (λ i. Reading.Refused i at) (sym h))
-  by-reading y (reading.Accepted len count) e h =
-      test (ltb k count)
-      (λ a. let w = number-taken s len count o e k (ltb-true k count a) in
-      chosen (getD (w .0) k absent) (record { keeps = y; len = len; count = count; reading = e; within = ltb-true k count a; next = w .3 .0; taken = w .3 .1 })
-      (h ∙ ap (λ st. on (reportAt s st)) (w .3 .1)))
-      (λ b. let p = number-past s len count o e k (ltb-false k count b) in
-      missing y len count e (ltb-false k count b) (h ∙ ap (λ st. on (reportAt s st)) p))
+  -- Each verdict has its number.
+  pub number-of : Verdict l s k n → postOf l s k .number ≡ n
+  number-of (broken f e) = broken-number f ∙ sym e
+  number-of (unread y at r) = unread-number y n at r
+  number-of (missing y len count r h e) = missing-number y len count r h ∙ sym e
+  number-of (other t c f e) = other-number t c f ∙ sym e
+  number-of (full t c y h e) = counted-number t c y true _ (lt-ltb _ _ h) refl ∙ sym e
+  number-of (past t c y h p e) = counted-number t c y false true (le-ltb _ _ h) p ∙ sym e
+  number-of (added t c y h p e) = counted-number t c y false false (le-ltb _ _ h) p ∙ sym e
+
+  -- Each post has its verdict.
+  module _ (is : n ≡ postOf l s k .number) where
+    statistics : (t : Record) → Chosen l s k t → isStatistics t ≡ true → Verdict l s k n
+    statistics t c y =
+        test (ltb 256 (rowsFor (rowsOf l) (entriesOf s t))) (λ a. full t c y (ltb-true _ _ a) (is ∙ counted-number t c y true _ a refl)) λ b.
+        test (passes addUp (rowsOf l) (entriesOf s t)) (λ a. past t c y (ltb-false _ _ b) a (is ∙ counted-number t c y false true b a))
+        (λ a. added t c y (ltb-false _ _ b) a (is ∙ counted-number t c y false false b a))
+
+    accepted : keepsRules l ≡ true → (len count : ℕ) → readOf s ≡ Reading.Accepted len count → Verdict l s k n
+    accepted y len count e =
+        test (ltb k count)
+        (λ a.
+        let w = number-taken s len count o e k (ltb-true k count a) in
+        let t = getD (w .0) k absent in
+        let c : Chosen l s k t = record { keeps = y; len = len; count = count; reading = e; within = ltb-true k count a; next = w .3 .0; taken = w .3 .1 } in
+        test (isStatistics t) (statistics t c) (λ f. other t c f (is ∙ other-number t c f)))
+        (λ b. missing y len count e (ltb-false k count b) (is ∙ missing-number y len count e (ltb-false k count b)))
+
+    kept : keepsRules l ≡ true → (r : Reading) → readOf s ≡ r → Verdict l s k n
+    kept y (reading.Refused m at) e = unread y at (e ∙ ap (λ i. Reading.Refused i at) (sym (is ∙ unread-number y m at e)))
+    kept y (reading.Accepted len count) e = accepted y len count e
 
   pub verdict : (m : Ledger) → Posts l s k (answer n m) → Verdict l s k n
-  unfolding reportOf
   verdict m h =
-      let number : n ≡ postOf l s k .number = ap (λ (a : Answer). a .number) h in
-      test (keepsRules l) (λ y. by-reading y (readOf s) refl (number ∙ kept-number y)) (λ f. broken f (number ∙ broken-number f))
+      let is : n ≡ postOf l s k .number = ap (λ (a : Answer). a .number) h in
+      test (keepsRules l) (λ y. kept is y (readOf s) refl) (λ f. broken f (is ∙ broken-number f))

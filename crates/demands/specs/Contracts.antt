@@ -1,7 +1,8 @@
--- What the contracts of the public operations say of an answer and of what was lent, word for word.
+-- What the contracts of the public operations say of an answer and of what was lent, word for word: see proofs/Ties.antt.
+use mathlib.Core.Bool.{Bool, _||_}
 use mathlib.Core.Path.{_≡_}
-use mathlib.Core.List.{List}
-use Prim.Native.Nat.{ℕ}
+use mathlib.Core.List.{List, []}
+use Prim.Native.Nat.{ℕ, _+_}
 use lib.ListN.{length}
 use Rattle.blocks.specs.Walks.{readOf, listedReading, readListed}
 use Rattle.blocks.specs.Steps.{stepOf, listedStep, stepListed, entryOf, listedEntry, entryListed}
@@ -10,12 +11,17 @@ use Rattle.blocks.specs.declared.walk.Reading.{Reading}
 use Rattle.blocks.specs.declared.cursor.Step.{Step}
 use Rattle.blocks.specs.declared.cursor.Found.{Found}
 use Rattle.octets.specs.Outcomes.{Outcome, within, answerOf, outputOf, listedWritten, outcomeListed}
+use Rattle.ledger.specs.Ledgers.{answer, ledgerOf, rulesRefusal}
 use Rattle.ledger.specs.Pages.{loadOf, storeOf}
 use Rattle.ledger.specs.Posts.{postOf}
 use Rattle.ledger.specs.declared.Answer.{Answer}
 use Rattle.ledger.specs.declared.Ledger.{Ledger}
 use Rattle.writing.specs.Written.{writeOf, rewriteOf}
 use Rattle.octets.specs.declared.output.Written.{Written}
+use Rattle.feed.specs.Blocks.{nextOf}
+use Rattle.feed.specs.declared.block.Next.{Next}
+use Rattle.doors.specs.Cells.{cellCount}
+use Rattle.doors.specs.Answers.{isFew, numberOr, cellsOr, readCells, stepCells, entryCells, putNumber, putOutput, putLength, cellsWritten, pagePosted}
 
 -- blocks::walk::read: the octets, the answer
 abbrev pub Reads : List ℕ → Reading → Type 0
@@ -42,9 +48,21 @@ Writes s t l out r = Puts (writeOf s t) l out r
 abbrev pub Rewrites : List ℕ → List ℕ → List ℕ → Written → Type 0
 Rewrites s l out r = Puts (rewriteOf s) l out r
 
+-- ledger::fresh: the ledger
+abbrev pub Fresh : Ledger → Type 0
+Fresh r = r ≡ ledgerOf []
+
+-- ledger::rules::check: the ledger, the number
+abbrev pub Checks : Ledger → ℕ → Type 0
+Checks l r = r ≡ rulesRefusal l
+
 -- ledger::post::post: the ledger, the octets, the record number, the answer with the ledger
 abbrev pub Posts : Ledger → List ℕ → ℕ → Answer → Type 0
 Posts l s k r = r ≡ postOf l s k
+
+-- ledger::lent::post_lent: the ledger behind the reference, the octets, the record number, the ledger behind it afterwards, the number
+abbrev pub LentPosts : Ledger → List ℕ → ℕ → Ledger → ℕ → Type 0
+LentPosts l s k after r = answer r after ≡ postOf l s k
 
 -- ledger::page::load: the page, the answer with the ledger
 abbrev pub Loads : List ℕ → Answer → Type 0
@@ -53,3 +71,41 @@ Loads s r = r ≡ loadOf s
 -- ledger::page::store: the ledger, the output before and after, the answer
 abbrev pub Stores : Ledger → List ℕ → List ℕ → Written → Type 0
 Stores l o out r = Puts (storeOf l) o out r
+
+-- feed::block::next_block: the octets at hand, whether the input is over, the answer
+abbrev pub Begins : List ℕ → Bool → Next → Type 0
+Begins s over r = r ≡ nextOf s over
+
+-- the doors: whether too few cells are lent, the number and the values otherwise, the cells before and after, the number answered
+abbrev Lays : Bool → ℕ → List ℕ → List ℕ → List ℕ → ℕ → Type 0
+Lays few n values cells after r = (r ≡ numberOr few n) × (after ≡ cellsOr few cells values)
+
+-- doors::wear_read: the octets, the cells before and after, the number
+abbrev pub WearReads : List ℕ → List ℕ → List ℕ → ℕ → Type 0
+WearReads s cells after r = Lays (isFew 3 cells) (readListed s .number) (readCells (readListed s)) cells after r
+
+-- doors::wear_step: the octets, the start, the cells before and after, the number
+abbrev pub WearSteps : List ℕ → ℕ → List ℕ → List ℕ → ℕ → Type 0
+WearSteps s start cells after r =
+    Lays (isFew (2 + cellCount) cells) (stepListed s start .number) (stepCells (stepListed s start)) cells after r
+
+-- doors::wear_entry: the octets, the record's start, the number of the entry, the cells before and after, the number
+abbrev pub WearEntries : List ℕ → ℕ → ℕ → List ℕ → List ℕ → ℕ → Type 0
+WearEntries s start k cells after r = Lays (isFew 4 cells) (entryListed s start k .number) (entryCells (entryListed s start k)) cells after r
+
+-- the doors that put out: whether too few cells are lent, what is put out otherwise, the output and the length's cell before, the two after, the number
+abbrev PutsOut : Bool → Outcome → List ℕ → List ℕ → List ℕ → List ℕ → ℕ → Type 0
+PutsOut few x l size out after r =
+    (r ≡ putNumber few (within (length l) x)) × (out ≡ putOutput few l (within (length l) x)) × (after ≡ putLength few size (within (length l) x))
+
+-- doors::wear_write: the record's cells, the source, the output and the length's cell before, the two after, the number
+abbrev pub WearWrites : List ℕ → List ℕ → List ℕ → List ℕ → List ℕ → List ℕ → ℕ → Type 0
+WearWrites cells s l size out after r = PutsOut (isFew cellCount cells || isFew 1 size) (cellsWritten cells s) l size out after r
+
+-- doors::wear_rewrite: the octets, the output and the length's cell before, the two after, the number
+abbrev pub WearRewrites : List ℕ → List ℕ → List ℕ → List ℕ → List ℕ → ℕ → Type 0
+WearRewrites s l size out after r = PutsOut (isFew 1 size) (rewriteOf s) l size out after r
+
+-- doors::wear_post: the page, the octets, the record number, the output and the length's cell before, the two after, the number
+abbrev pub WearPosts : List ℕ → List ℕ → ℕ → List ℕ → List ℕ → List ℕ → List ℕ → ℕ → Type 0
+WearPosts page s k l size out after r = PutsOut (isFew 1 size) (pagePosted page s k) l size out after r

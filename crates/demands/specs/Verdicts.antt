@@ -1,5 +1,5 @@
 -- What a post is answered, and when: document 01's checks in their order, 16, the reader's 1 to 11, 17, 13, 14, 15. No two of the cases can hold
--- together.
+-- together, and each implies its number: proofs/GivenPosts.antt.
 use mathlib.Core.Bool.{true, false}
 use mathlib.Core.List.{List}
 use mathlib.Core.Path.{_≡_}
@@ -36,3 +36,13 @@ pub data Verdict (l : Ledger) (s : List ℕ) (k n : ℕ) : Type 0 where
       → passes addUp (rowsOf l) (entriesOf s t) ≡ true → n ≡ lifePasses → Verdict l s k n
   added : (t : Record) → Chosen l s k t → isStatistics t ≡ true → rowsFor (rowsOf l) (entriesOf s t) ≤ 256
       → passes addUp (rowsOf l) (entriesOf s t) ≡ false → n ≡ 0 → Verdict l s k n
+
+-- the cases in turn
+abbrev pub turn : {l : Ledger} {s : List ℕ} {k n : ℕ} → Verdict l s k n → ℕ
+turn (broken f e) = 1
+turn (unread y at e) = 2
+turn (missing y len count r m e) = 3
+turn (other t c f e) = 4
+turn (full t c y m e) = 5
+turn (past t c y m p e) = 6
+turn (added t c y m p e) = 7

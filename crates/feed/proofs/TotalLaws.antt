@@ -16,11 +16,11 @@ use Rattle.feed.specs.declared.totals.Totals.{Totals}
 -- A count that goes up
 
 -- a sum below 2^64 is the count
-up-low : (n k : ℕ) → n + k < 2 ^ 64 → up n k ≡ n + k
+pub up-low : (n k : ℕ) → n + k < 2 ^ 64 → up n k ≡ n + k
 up-low n k h = rw (lt-leb (2 ^ 64) (n + k) h)
 
 -- from there on it is 2^64 - 1
-up-high : (n k : ℕ) → 2 ^ 64 ≤ n + k → up n k ≡ 2 ^ 64 - 1
+pub up-high : (n k : ℕ) → 2 ^ 64 ≤ n + k → up n k ≡ 2 ^ 64 - 1
 up-high n k h = rw (le-leb (2 ^ 64) (n + k) h)
 
 -- so one more is the next number, and 2^64 - 1 stays
@@ -44,7 +44,7 @@ up-full : (k : ℕ) → up (2 ^ 64 - 1) k ≡ 2 ^ 64 - 1
 up-full k = up-cases (2 ^ 64 - 1) k (λ h. up-low (2 ^ 64 - 1) k h ∙ omega arith) (up-high (2 ^ 64 - 1) k)
 
 -- up by one number and by another is up by their sum
-up-up : (n a b : ℕ) → up (up n a) b ≡ up n (a + b)
+pub up-up : (n a b : ℕ) → up (up n a) b ≡ up n (a + b)
 up-up n a b =
     up-cases n a
     (λ h. rw (up-low n a h) (ap (λ m. pick (leb (2 ^ 64) m) (2 ^ 64 - 1) m) (add-assoc n a b)))

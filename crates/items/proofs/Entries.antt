@@ -15,7 +15,6 @@ use Rattle.layouts.specs.Formats.{fitsIn, put}
 use Rattle.layouts.specs.Layouts.{octet, times}
 use Rattle.layouts.specs.Tables.{counter}
 use Rattle.layouts.specs.Offsets.{groupsAt}
-use Rattle.items.specs.Typed.{}
 
 -- the values in a number are in range
 abbrev pub ranged : List Part → ℕ → Bool

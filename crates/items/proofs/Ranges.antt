@@ -3,16 +3,15 @@ use mathlib.Core.Path.{_≡_, refl, sym, _∙_}
 use mathlib.Core.Bool.{Bool, true, false, _&&_, and-true}
 use mathlib.Core.List.{List, [], _∷_}
 use Prim.Native.Nat.{ℕ, _+_, _-_, _*_, _/_, _%_, _^_, _≤_, _<_}
-use native.Mathlib.Nat.{add-zero, div-one, mod-eq-of-lt}
+use native.Mathlib.Nat.{div-one, mod-eq-of-lt}
 use native.Mathlib.Omega.{arith}
-use lib.Dec.{leb, leb·zero}
+use lib.Dec.{leb}
 use lib.ListN.{length, getD}
 use borrow.Author.Tests.{eqb-false}
 use Rattle.octets.specs.Choice.{pick, odd}
 use Rattle.octets.specs.Numbers.{Octets, number}
 use Rattle.octets.specs.Refusals.{noCount, pastLast}
 use Rattle.octets.proofs.Cases.{test}
-use Rattle.octets.proofs.Numbers.{number-lt}
 use Rattle.layouts.specs.Groups.{any, between, values, fits, Group}
 use Rattle.layouts.specs.Formats.{Format, done, stop, Trace, fitsIn, got}
 use Rattle.layouts.specs.Offsets.{runAt, traceAt}
@@ -41,14 +40,6 @@ module _ (s : List ℕ) (o : Octets s) (at : ℕ) where
   pub octet-alone : (least greatest : ℕ) → (leb least (getD s at 0) && leb (getD s at 0) greatest)
       ≡ fits (between 8 least greatest ∷ []) (values (between 8 least greatest ∷ []) (number 1 s at))
   octet-alone least greatest = sym (rw number-one (alone 8 least greatest (getD s at 0) (o at)))
-
-  three-octets : getD s at 0 * 65536 + getD s (at + 1) 0 * 256 + getD s (at + 2) 0 ≡ number 3 s at
-  unfolding number
-  three-octets = rw add-zero (omega arith)
-
-  pub three-alone : (greatest : ℕ) → leb (getD s at 0 * 65536 + getD s (at + 1) 0 * 256 + getD s (at + 2) 0) greatest
-      ≡ fits (between 24 0 greatest ∷ []) (values (between 24 0 greatest ∷ []) (number 3 s at))
-  three-alone greatest = rw three-octets (sym (alone 24 0 greatest (number 3 s at) (number-lt 3 s at o) ∙ rw leb·zero))
 
 module _ (s : List ℕ) (len : ℕ) where
   -- an extension, where FX before it is set

@@ -20,8 +20,10 @@ use crate::typed::Counter;
 use crate::typed::Item;
 use crate::typed::LAST_REPORT;
 use crate::typed::LAST_TYPE;
+use crate::typed::LAST_VERSION;
 use crate::typed::LATEST;
 use crate::typed::LONGEST;
+use crate::typed::MOST_COUNTED;
 use crate::typed::Place;
 use crate::typed::Sdps;
 use crate::typed::Service;
@@ -77,10 +79,7 @@ pub fn counter_at(s: &[u8], at: usize) -> Counter
     requires { ⌜ at ≤ length (now s) ⌝ }
     ensures { λ r. ⌜ r ≡ counterOf (values (counter .parts) (number (counter .wide) (now (s .entry)) at)) ⌝ }
 {
-    let field = Cat23::I120;
-    let kind = field.1;
-    let size = entry_octets(kind);
-    crate::values::counter_of(octets::read(s, at, size))
+    crate::values::counter_of(octets::read(s, at, Cat23::ENTRY))
 }
 
 // An entry of 242/550. Only for the next layer: the offset lies in the slice.
@@ -88,10 +87,7 @@ pub fn version_at(s: &[u8], at: usize) -> Version
     requires { ⌜ at ≤ length (now s) ⌝ }
     ensures { λ r. ⌜ r ≡ versionOf (values (version .parts) (number (version .wide) (now (s .entry)) at)) ⌝ }
 {
-    let field = Cat242::I550;
-    let kind = field.1;
-    let size = entry_octets(kind);
-    crate::values::version_of(octets::read(s, at, size))
+    crate::values::version_of(octets::read(s, at, Cat242::ENTRY))
 }
 
 // The number of an item's extension, where FX of its first number is set; 0 where there is none.
@@ -128,7 +124,7 @@ fn place_refusal(len: usize, place: Place, size: usize, extra: usize) -> u8
     if place.count == 0 {
         return refusal::NO_COUNT;
     }
-    if 255 - extra < place.count {
+    if MOST_COUNTED - extra < place.count {
         return refusal::OUT_OF_RANGE;
     }
     refusal::ACCEPTED
@@ -139,20 +135,17 @@ fn versions_fit(s: &[u8], at: usize, count: usize) -> bool
     requires { ⌜ at + count * version .wide ≤ length (now s) ⌝ }
     ensures { λ r. ⌜ r ≡ fitsIn (times count version) (groupsAt count version (now (s .entry)) at) ⌝ }
 {
-    let field = Cat242::I550;
-    let kind = field.1;
-    let size = entry_octets(kind);
     let mut p = at;
     let mut left = count;
     while 0 < left {
         let entry = version_at(s, p);
-        if 99 < entry.main {
+        if LAST_VERSION < entry.main {
             return false;
         }
-        if 99 < entry.sub {
+        if LAST_VERSION < entry.sub {
             return false;
         }
-        p += size;
+        p += Cat242::ENTRY;
         left -= 1;
     }
     true
@@ -316,7 +309,8 @@ fn time_fits(s: &[u8], at: usize) -> bool
     requires { ⌜ at + time .wide ≤ length (now s) ⌝ }
     ensures { λ r. ⌜ r ≡ fits (time .parts) (values (time .parts) (number (time .wide) (now (s .entry)) at)) ⌝ }
 {
-    s[at] as u32 * 65536 + s[at + 1] as u32 * 256 + s[at + 2] as u32 <= LATEST
+    let time = time_at(s, at);
+    time.0 <= LATEST
 }
 
 // The values of an item's first group are in their ranges.
@@ -418,9 +412,7 @@ pub fn time_at(s: &[u8], at: usize) -> TimeOfDay
     requires { ⌜ at ≤ length (now s) ⌝ }
     ensures { λ r. ⌜ r ≡ timeOf (traceAt (format (layout Form.Time)) (now (s .entry)) at) ⌝ }
 {
-    let field = Cat23::I070;
-    let kind = field.1;
-    TimeOfDay((octets::read(s, at, first_octets(kind)) % 16777216) as u32)
+    TimeOfDay(octets::read3(s, at))
 }
 
 pub fn sdps_at(s: &[u8], at: usize) -> Sdps

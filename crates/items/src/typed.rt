@@ -8,8 +8,8 @@ pub struct Seconds(pub u8);
 // Of 1/128 s since midnight.
 pub struct TimeOfDay(pub u32);
 
-// The greatest values: of a type (23/000, 65/000) and of a report (65/050), which count from 1; of a time of day; and of a period in
-// seconds (GSSP, SSRP), at least 1.
+// The greatest values: of a type (23/000, 65/000) and of a report (65/050), which count from 1; of a time of day; of a period in
+// seconds (GSSP, SSRP), at least 1; and of a version number (242/550).
 pub const LAST_TYPE: u8 = 3;
 
 pub const LAST_REPORT: u8 = 16;
@@ -17,6 +17,11 @@ pub const LAST_REPORT: u8 = 16;
 pub const LATEST: u32 = 11059199;
 
 pub const LONGEST: u8 = 127;
+
+pub const LAST_VERSION: u8 = 99;
+
+// The most that a count octet says: entries, or octets of RE or SP with that octet itself.
+pub const MOST_COUNTED: usize = 255;
 
 // 010.
 pub struct Source {

@@ -106,6 +106,10 @@ layoutAt c f = layout (formAt c f)
 abbrev pub fieldAt : Category → ℕ → Field
 fieldAt c f = record { 0 = formAt c f; 1 = kindOf (layoutAt c f) }
 
+-- entries have one form in a category
+abbrev pub entriesForm : ℕ → Form
+entriesForm number = pick (eqb number 242) Versions Statistics
+
 -- marks of fields as a number: bit f - 1 for field f
 abbrev pub fieldMarks : List ℕ → ℕ
 fieldMarks [] = 0

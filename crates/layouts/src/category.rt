@@ -39,7 +39,10 @@ impl Cat23 {
 
     pub const I110: Field = Field(Form::Status, Kind::Extended(1, 0));
 
-    pub const I120: Field = Field(Form::Statistics, Kind::Repeated(6));
+    // The octets of an entry of 120.
+    pub const ENTRY: usize = 6;
+
+    pub const I120: Field = Field(Form::Statistics, Kind::Repeated(Self::ENTRY as u8));
 
     pub const RE: Field = Field(Form::Expansion, Kind::Explicit);
 
@@ -133,7 +136,10 @@ impl Cat242 {
 
     pub const I140: Field = Field(Form::Time, Kind::Fixed(3));
 
-    pub const I550: Field = Field(Form::Versions, Kind::Repeated(3));
+    // The octets of an entry of 550.
+    pub const ENTRY: usize = 3;
+
+    pub const I550: Field = Field(Form::Versions, Kind::Repeated(Self::ENTRY as u8));
 
     pub const SP: Field = Field(Form::Purpose, Kind::Explicit);
 

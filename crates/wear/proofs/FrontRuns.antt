@@ -1,69 +1,48 @@
--- A run over the front of a buffer: what was held, and what came behind it. Assumes nothing.
-use mathlib.Core.Bool.{Bool}
-use mathlib.Core.List.{List, _++_}
-use mathlib.Core.Path.{_≡_, sym, ap, _∙_, subst}
-use Prim.Native.Nat.{ℕ, _+_, _-_, _≤_, _<_}
-use native.Mathlib.Omega.{arith}
+-- A run over the front of a buffer: what waited, and what came behind it. Assumes nothing.
+use mathlib.Core.List.{List}
+use mathlib.Core.Path.{_≡_, refl, ap, _∙_, subst}
+use Prim.Native.Nat.{ℕ, _+_, _≤_}
 use lib.Dec.{eqb}
-use lib.ListN.{length, take, drop, length-drop}
-use lib.Seq.{take-add, length-take-le}
+use lib.ListN.{length, take}
 use Rattle.octets.specs.Numbers.{Octets}
-use Rattle.octets.proofs.Parts.{Octets-drop, Octets-take}
 use Rattle.ledger.specs.Ledgers.{rowsOf, ledgerOf}
 use Rattle.ledger.specs.declared.Ledger.{Ledger}
-use Rattle.feed.specs.Runs.{State, state, Run, runOver, doneOf}
+use Rattle.feed.specs.Runs.{state, Run, runOver, doneOf}
 use Rattle.feed.specs.declared.run.Done.{Done}
 use Rattle.feed.specs.declared.totals.Totals.{Totals}
-use Rattle.feed.proofs.RunEnds.{done-within}
-use Rattle.wear.specs.Turns.{Within, goingOf, Ran, Came}
-use Rattle.wear.specs.declared.input.Going.{Going}
-use Rattle.wear.specs.declared.input.Input.{Input}
+use Rattle.wear.specs.Turns.{heard, goingOf, held, waiting, Ran, Came}
 use Rattle.wear.specs.declared.input.Turn.{Turn}
+use Rattle.wear.specs.declared.reads.Going.{Going}
+use Rattle.wear.specs.declared.reads.Reads.{Reads}
 
-abbrev pub turn : ℕ → Totals → Going → Turn
-turn n t g = record { held = n; totals = t; going = g }
+abbrev pub turn : ℕ → ℕ → Totals → Going → Reads → Turn
+turn from to t g reads = record { from = from; to = to; totals = t; going = g; reads = reads }
 
--- By what the functions that were called ensure
+-- what a run ensures
+pub front-ran : (s : List ℕ) (r : Run) (l : Ledger) (d : Done) (g : Going) (told : Reads) → (l ≡ ledgerOf (r .state .rows)) × (d ≡ doneOf r)
+    → g ≡ goingOf (d .ending) → Ran s r l told (turn (d .at) (length s) (d .totals) g told)
+front-ran s r l d g told ran going = record {
+  rows = ran .0;
+  totals = ap (λ x. x .totals) (ran .1);
+  going = going ∙ ap (λ x. goingOf (x .ending)) (ran .1);
+  from = ap (λ x. x .at) (ran .1);
+  to = refl;
+  reads = refl;
+}
 
-module _ (buffer : List ℕ) (end : ℕ) (fits : end ≤ length buffer) where
-  -- the run leaves off within the front
-  pub at-within : (over : Bool) (st : State) (d : Done) → d ≡ doneOf (runOver (take end buffer) over st) → d .at ≤ end
-  at-within over st d is = omega (arith, length-take-le end buffer fits, done-within (take end buffer) over st d is)
-
-  -- and what it leaves was kept
-  pub front-ran : (r : Run) (out : List ℕ) (l : Ledger) (d : Done) (held : ℕ) (g : Going) → (l ≡ ledgerOf (r .state .rows)) × (d ≡ doneOf r)
-      → (held ≡ end - d .at) × (take held out ≡ drop (d .at) (take end buffer)) → g ≡ goingOf (d .ending)
-      → Ran (take end buffer) r out l (turn held (d .totals) g)
-  front-ran r out l d held g ran kept going = record {
-    rows = ran .0;
-    totals = ap (λ x. x .totals) (ran .1);
-    going = going ∙ ap (λ x. goingOf (x .ending)) (ran .1);
-    many = omega (arith, kept .0, ap (λ x. x .at) (ran .1), length-take-le end buffer fits);
-    waits = kept .1 ∙ ap (λ x. drop (x .at) (take end buffer)) (ran .1);
-  }
-
--- What came
-
--- a buffer before a read and after it
-module _ (before buffer : List ℕ) (held n : ℕ) where
-  -- what came lies in the buffer
-  pub came-within : held < length before → length buffer ≡ length before → (x : Input) → x ≡ Input.Came n → Within held buffer x
-      → held + n ≤ length buffer
-  came-within l same x e w = let h : n ≤ length buffer - held = subst (Within held buffer) e w in omega arith
-
-  -- a run over what is held then is a run over what was held and what came
-  pub came-behind : held + n ≤ length buffer → take held buffer ≡ take held before → Octets buffer
-      → (l₀ : Ledger) (t₀ : Totals) (out : List ℕ) (l : Ledger) (now : Turn)
-      → Ran (take (held + n) buffer) (runOver (take (held + n) buffer) (eqb n 0) (state (rowsOf l₀) t₀)) out l now
-      → Came (take held before) l₀ t₀ out l now
-  came-behind fits same o l₀ t₀ out l now r =
-      let t = take n (drop held buffer) in
-      let both : take (held + n) buffer ≡ take held before ++ t = take-add held n buffer ∙ ap (λ u. u ++ t) same in
-      let many : n ≡ length t = sym (length-take-le n (drop held buffer) (omega (arith, length-drop held buffer))) in
-      record {
-        came = t;
-        octets = Octets-take n (drop held buffer) (Octets-drop held buffer o);
-        ran =
-            subst (λ k. Ran (take held before ++ t) (runOver (take held before ++ t) (eqb k 0) (state (rowsOf l₀) t₀)) out l now) many
-            (subst (λ u. Ran u (runOver u (eqb n 0) (state (rowsOf l₀) t₀)) out l now) both r);
-      }
+-- A buffer as it was lent, with what waited moved to its front, and after the read: a run over its front is a run over what waited and what came.
+pub came-behind : (before : Turn) (b₀ b₁ b₂ : List ℕ) (h n : ℕ) (told : Reads) → h ≡ held before → take h b₁ ≡ waiting before b₀
+    → take h b₂ ≡ take h b₁ → h + n ≤ length b₂ → Octets b₂ → told ≡ heard (before .reads) n
+    → (l₀ l : Ledger) (now : Turn) → Ran (take (h + n) b₂) (runOver (take (h + n) b₂) (eqb n 0) (state (rowsOf l₀) (before .totals))) l told now
+    → Came before b₀ l₀ b₂ l now
+came-behind before b₀ b₁ b₂ h n told many kept same fits o is l₀ l now r =
+    let over : ℕ → Run = λ k. runOver (take (k + n) b₂) (eqb n 0) (state (rowsOf l₀) (before .totals)) in
+    record {
+      n = n;
+      fits = subst (λ k. k + n ≤ length b₂) many fits;
+      octets = o;
+      kept = subst (λ k. take k b₂ ≡ waiting before b₀) many (same ∙ kept);
+      ran =
+          subst (λ k. Ran (take (k + n) b₂) (over k) l (heard (before .reads) n) now) many
+          (subst (λ u. Ran (take (h + n) b₂) (over h) l u now) is r);
+    }

@@ -1,3 +1,4 @@
 pub mod Moves
+pub mod ReadLaws
 pub mod FrontRuns
 pub mod TurnLaws

@@ -4,7 +4,7 @@ use mathlib.Core.Path.{_≡_, refl, sym, ap, _∙_}
 use Prim.Native.Nat.{ℕ, suc, _+_, _-_, _≤_, _<_}
 use native.Mathlib.Numerals.{add-one}
 use native.Mathlib.Omega.{arith}
-use lib.ListN.{length, getD, take, drop, set, length-append, length-set, length-drop}
+use lib.ListN.{length, getD, take, drop, set, length-set, length-drop}
 use lib.Seq.{take-suc, take-suc-set, drop-set-lt, drop-drop, getD-drop, take-add, length-take-le, take-at, drop-at}
 
 -- the first i octets are those from an offset on, and behind them all is as it was
@@ -62,8 +62,6 @@ module _ (s t : List ℕ) (at : ℕ) (h : at ≤ length s) where
   pub front-same : take at back ≡ take at s
   front-same = take-at (take at s) _ at (length-take-le at s h)
 
-  -- what the part has room for, the buffer has room for
-  pub part-room : (n : ℕ) → n ≤ length t → n ≤ length back - at
-  part-room n l =
-      let rest = drop (length s - at) (drop at s) in
-      omega (arith, length-append (take at s) (t ++ rest), length-append t rest, length-take-le at s h)
+  -- the part is what is left
+  pub part-long : length (take (length s - at) (drop at s)) ≡ length s - at
+  part-long = length-take-le (length s - at) (drop at s) (omega (arith, length-drop at s))

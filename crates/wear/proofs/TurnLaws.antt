@@ -1,14 +1,18 @@
 -- Turn after turn: the octets that have come, and the run over them. Assumes nothing.
 use mathlib.Core.Bool.{Bool, true, false}
 use mathlib.Core.List.{List, [], _∷_, _++_, append-nil}
-use mathlib.Core.Logic.{inl, inr}
+use mathlib.Core.Logic.{inl, inr, ⊎-elim}
 use mathlib.Core.Path.{_≡_, refl, sym, ap, _∙_, subst}
-use Prim.Native.Nat.{ℕ, zero, suc, _≤_, _<_}
+use Prim.Native.Nat.{ℕ, zero, suc, _+_, _-_, _^_, _≤_, _<_}
 use native.Mathlib.Omega.{arith}
-use lib.Dec.{eqb}
+use lib.Dec.{eqb, leb}
 use lib.ListN.{length, take, drop, replicate, length-append, length-drop}
-use lib.Seq.{drop-drop, drop-append-le}
+use lib.Seq.{drop-drop, drop-append-le, take-add, length-take-le}
+use borrow.Author.Tests.{leb-true, leb-false, eqb-false}
+use Rattle.octets.specs.Choice.{pick}
 use Rattle.octets.specs.Numbers.{Octets}
+use Rattle.octets.proofs.Cases.{test}
+use Rattle.octets.proofs.Parts.{Octets-drop, Octets-take}
 use Rattle.rows.specs.Posting.{Good}
 use Rattle.ledger.specs.Ledgers.{columns, rowsOf, ledgerOf}
 use Rattle.ledger.specs.Steps.{Kept}
@@ -16,15 +20,17 @@ use Rattle.ledger.specs.declared.Ledger.{Ledger}
 use Rattle.ledger.proofs.ColumnLaws.{rows-back}
 use Rattle.feed.specs.Blocks.{nextOf}
 use Rattle.feed.specs.Runs.{State, state, Run, behind, runFrom, runOver, zeros}
+use Rattle.feed.specs.Totals.{up}
 use Rattle.feed.specs.declared.run.Ending.{Ending}
 use Rattle.feed.specs.declared.run.Ending.the-variants as ending
-use Rattle.feed.specs.declared.totals.Totals.{Totals}
 use Rattle.feed.proofs.KeptRuns.{kept-run}
 use Rattle.feed.proofs.RunTheorems.{rest-short, run-more, run-stopped}
 use Rattle.feed.proofs.RunEnds.{Proper, run-left}
-use Rattle.wear.specs.Turns.{goingOf, Ran, Came, Turned, Worn}
-use Rattle.wear.specs.declared.input.Going.{Going}
+use Rattle.feed.proofs.TotalLaws.{up-low, up-high, up-up}
+use Rattle.wear.specs.Turns.{unread, goingOf, held, waiting, Waiting, Came, Turned, Worn, Turns}
 use Rattle.wear.specs.declared.input.Turn.{Turn}
+use Rattle.wear.specs.declared.reads.Going.{Going}
+use Rattle.wear.specs.declared.reads.Reads.{Reads}
 use Rattle.wear.proofs.FrontRuns.{turn}
 
 -- a fresh ledger and totals of zero
@@ -44,18 +50,43 @@ octets-both [] t o p i = p i
 octets-both (x ∷ s) t o p zero = o 0
 octets-both (x ∷ s) t o p (suc i) = octets-both s t (λ j. o (suc j)) p i
 
--- Octets have come, and the run over them waits for more.
-pub record Waits (s buffer : List ℕ) (l : Ledger) (now : Turn) : Type 0 where
+-- a count of 2^64 - 1 or more stays there
+up-most : (n : ℕ) → 2 ^ 64 - 1 ≤ n → up 0 n ≡ 2 ^ 64 - 1
+up-most n h =
+    test (leb (2 ^ 64) n)
+    (λ t. up-high 0 n (omega (arith, leb-true (2 ^ 64) n t)))
+    (λ f. let l = leb-false (2 ^ 64) n f in up-low 0 n (omega arith) ∙ omega arith)
+
+-- A run over all octets that have come is done; what it left of them waits in the buffer, and the reads have given as many as they are.
+pub record Done (s : List ℕ) (over : Bool) (buffer : List ℕ) (l : Ledger) (now : Turn) : Type 0 where
   pub octets : Octets s
-  pub ran : Ran s (runOver s false fresh) buffer l now
+  pub rows : l ≡ ledgerOf (runOver s over fresh .state .rows)
+  pub totals : now .totals ≡ runOver s over fresh .state .totals
+  pub going : now .going ≡ goingOf (runOver s over fresh .ending)
+  pub order : now .from ≤ now .to
+  pub within : now .to ≤ length buffer
+  pub waits : waiting now buffer ≡ drop (runOver s over fresh .at) s
+  pub all : now .reads .octets ≡ up 0 (length s)
+
+-- and it waits for more
+pub record Waits (s buffer : List ℕ) (l : Ledger) (now : Turn) : Type 0 where
+  pub done : Done s false buffer l now
   pub more : runOver s false fresh .ending ≡ Ending.More
 
 -- none has come
-pub waits-none : (buffer : List ℕ) (l : Ledger) → l ≡ ledgerOf [] → Waits [] buffer l (turn 0 zeros Going.On)
+pub waits-none : (buffer : List ℕ) (l : Ledger) (told : Reads) → l ≡ ledgerOf [] → told ≡ unread → Waits [] buffer l (turn 0 0 zeros Going.On told)
 unfolding runFrom nextOf
-waits-none buffer l e = record {
-  octets = λ i. omega arith;
-  ran = record { rows = e; totals = refl; going = refl; many = refl; waits = refl };
+waits-none buffer l told e u = record {
+  done = record {
+    octets = λ i. omega arith;
+    rows = e;
+    totals = refl;
+    going = refl;
+    order = omega arith;
+    within = omega arith;
+    waits = refl;
+    all = ap (λ x. x .octets) u ∙ sym (up-low 0 0 (omega arith));
+  };
   more = refl;
 }
 
@@ -65,7 +96,7 @@ waits-none buffer l e = record {
 pub on-not-over : {g : Going} {A : Type 0} → g ≡ Going.On → g ≡ Going.Over → A
 on-not-over e h = absurd (let z : _≡_ {A = ℕ} 0 1 = cc in omega arith)
 
-failed-not : {g : Going} {A : Type 0} → g ≡ Going.Failed → (g ≡ Going.On → A) × (g ≡ Going.Over → A)
+pub failed-not : {g : Going} {A : Type 0} → g ≡ Going.Failed → (g ≡ Going.On → A) × (g ≡ Going.Over → A)
 failed-not f = (λ e. absurd (let z : _≡_ {A = ℕ} 0 1 = cc in omega arith), λ e. absurd (let z : _≡_ {A = ℕ} 0 1 = cc in omega arith))
 
 on-more : (e : Ending) → goingOf e ≡ Going.On → e ≡ Ending.More
@@ -81,21 +112,29 @@ over-stopped ending.More h p = on-not-over refl h
 over-stopped ending.Ended h p = absurd p
 over-stopped ending.Stopped h p = refl
 
-module _ (s buffer : List ℕ) (l : Ledger) (now : Turn) (o : Octets s) where
-  ran-on : (over : Bool) → Ran s (runOver s over fresh) buffer l now → now .going ≡ Going.On → Waits s buffer l now
-  ran-on true r e = absurd (on-waits (runOver s true fresh .ending) (sym (r .going) ∙ e) (run-left s true fresh .proper))
-  ran-on false r e = record { octets = o; ran = r; more = on-more _ (sym (r .going) ∙ e) }
+never-failed : {A : Type 0} (e : Ending) → goingOf e ≡ Going.Failed → A
+never-failed ending.More h = failed-not h .0 refl
+never-failed ending.Ended h = failed-not h .1 refl
+never-failed ending.Stopped h = failed-not h .1 refl
 
-  ran-over : (over : Bool) → Ran s (runOver s over fresh) buffer l now → now .going ≡ Going.Over → Worn l (now .totals)
-  ran-over true r e = record { feed = s; octets = o; rows = r .rows; totals = r .totals }
-  ran-over false r e =
-      let all : Octets (s ++ []) = rw append-nil o in
-      let same = run-stopped s [] true fresh all (over-stopped _ (sym (r .going) ∙ e) (run-left s false fresh .proper)) in
+module _ (s buffer : List ℕ) (l : Ledger) (now : Turn) where
+  done-on : (over : Bool) → Done s over buffer l now → now .going ≡ Going.On → Waits s buffer l now × (over ≡ false)
+  done-on true d e = absurd (on-waits (runOver s true fresh .ending) (sym (d .going) ∙ e) (run-left s true fresh .proper))
+  done-on false d e = (record { done = d; more = on-more _ (sym (d .going) ∙ e) }, refl)
+
+  done-over : (over : Bool) → Done s over buffer l now → (over ≡ true → now .reads .input ≡ Going.Over) → now .going ≡ Going.Over → Worn l now
+  done-over true d end e = record { feed = s; octets = d .octets; all = d .all; whole = inl (end refl); rows = d .rows; totals = d .totals }
+  done-over false d end e =
+      let stopped = over-stopped _ (sym (d .going) ∙ e) (run-left s false fresh .proper) in
+      let same : runOver s true fresh ≡ runOver s false fresh =
+      subst (λ u. runOver u true fresh ≡ runOver s false fresh) (append-nil s) (run-stopped s [] true fresh (rw append-nil (d .octets)) stopped) in
       record {
-        feed = s ++ [];
-        octets = all;
-        rows = r .rows ∙ sym (ap (λ (x : Run). ledgerOf (x .state .rows)) same);
-        totals = r .totals ∙ sym (ap (λ (x : Run). x .state .totals) same);
+        feed = s;
+        octets = d .octets;
+        all = d .all;
+        whole = inr stopped;
+        rows = d .rows ∙ sym (ap (λ (x : Run). ledgerOf (x .state .rows)) same);
+        totals = d .totals ∙ sym (ap (λ (x : Run). x .state .totals) same);
       }
 
 -- Octets wait, and a turn is taken
@@ -106,59 +145,122 @@ module _ (s buffer : List ℕ) (l : Ledger) (now : Turn) (w : Waits s buffer l n
 
   -- the ledger keeps the rules
   pub waits-kept : Kept l
-  waits-kept = subst Kept (sym (w .ran .rows)) (kept-run (suc (length s)) s false fresh good-none)
+  waits-kept = subst Kept (sym (w .done .rows)) (kept-run (suc (length s)) s false fresh good-none)
+
+  -- as many octets wait as the run left
+  many : held now ≡ length (drop (run .at) s)
+  many = omega (arith, length-drop (now .from) (take (now .to) buffer), length-take-le (now .to) buffer (w .done .within), ap length (w .done .waits))
 
   -- there is room behind what waits
-  pub waits-room : length buffer ≡ 131072 → now .held < length buffer
-  waits-room e = omega (arith, e, w .ran .many, length-drop (run .at) s, rest-short s fresh (w .octets) (w .more))
-
-  abbrev waited : List ℕ
-  waited = take (now .held) buffer
+  pub waits-room : length buffer ≡ 131072 → Waiting now buffer
+  waits-room e = record {
+    order = w .done .order;
+    within = w .done .within;
+    room = omega (arith, e, many, rest-short s fresh (w .done .octets) (w .more));
+  }
 
   -- the run over what waited and what comes is the run over all
   module _ (t : List ℕ) (o : Octets t) (over : Bool) where
-    abbrev one : Run
-    one = runOver (waited ++ t) over (state (rowsOf l) (now .totals))
-
-    whole : runOver (s ++ t) over fresh ≡ behind (run .at) one
+    whole : runOver (s ++ t) over fresh ≡ behind (run .at) (runOver (waiting now buffer ++ t) over (state (rowsOf l) (now .totals)))
     whole =
-        run-more s t over fresh (octets-both s t (w .octets) o) (w .more)
-        ∙ (λ i. behind (run .at) (runOver (sym (w .ran .waits) i ++ t) over (state (sym same i) (sym (w .ran .totals) i))))
+        run-more s t over fresh (octets-both s t (w .done .octets) o) (w .more)
+        ∙ (λ i. behind (run .at) (runOver (sym (w .done .waits) i ++ t) over (state (sym same i) (sym (w .done .totals) i))))
       where
         same : rowsOf l ≡ run .state .rows
-        same = ap rowsOf (w .ran .rows) ∙ rows-back (run .state .rows)
+        same = ap rowsOf (w .done .rows) ∙ rows-back (run .state .rows)
 
-    all-ran : (out : List ℕ) (m : Ledger) (then : Turn) → Ran (waited ++ t) one out m then → Ran (s ++ t) (runOver (s ++ t) over fresh) out m then
-    all-ran out m then r =
+  -- octets came
+  module _ (out : List ℕ) (m : Ledger) (then : Turn) (c : Came now buffer l out m then) where
+    abbrev n : ℕ
+    n = c .n
+
+    abbrev t : List ℕ
+    t = take n (drop (held now) out)
+
+    abbrev front : List ℕ
+    front = take (held now + n) out
+
+    abbrev one : Run
+    one = runOver front (eqb n 0) (state (rowsOf l) (now .totals))
+
+    long : length t ≡ n
+    long = length-take-le n (drop (held now) out) (omega (arith, length-drop (held now) out, c .fits))
+
+    both : front ≡ waiting now buffer ++ t
+    both = take-add (held now) n out ∙ ap (λ u. u ++ t) (c .kept)
+
+    came-octets : Octets t
+    came-octets = Octets-take n (drop (held now) out) (Octets-drop (held now) out (c .octets))
+
+    all : runOver (s ++ t) (eqb n 0) fresh ≡ behind (run .at) one
+    all = whole t came-octets (eqb n 0) ∙ ap (λ u. behind (run .at) (runOver u (eqb n 0) (state (rowsOf l) (now .totals)))) (sym both)
+
+    came-done : Done (s ++ t) (eqb n 0) out m then
+    came-done =
         let in-s = run-left s false fresh .within in
-        let long = ap length (w .ran .waits) in
-        subst (λ (x : Run). Ran (s ++ t) x out m then) (sym whole) (record {
-          rows = r .rows;
-          totals = r .totals;
-          going = r .going;
-          many = r .many ∙ omega (arith, in-s, long, length-append waited t, length-append s t, length-drop (run .at) s);
+        let r = c .ran in
+        record {
+          octets = octets-both s t (w .done .octets) came-octets;
+          rows = r .rows ∙ sym (ap (λ (x : Run). ledgerOf (x .state .rows)) all);
+          totals = r .totals ∙ sym (ap (λ (x : Run). x .state .totals) all);
+          going = r .going ∙ sym (ap (λ (x : Run). goingOf (x .ending)) all);
+          order = omega (arith, r .from, r .to, run-left front (eqb n 0) (state (rowsOf l) (now .totals)) .within);
+          within = omega (arith, r .to, length-take-le (held now + n) out (c .fits), c .fits);
           waits =
-              r .waits ∙ ap (λ u. drop (one .at) (u ++ t)) (w .ran .waits) ∙ ap (drop (one .at)) (sym (drop-append-le (run .at) s t in-s))
-              ∙ drop-drop (one .at) (run .at) (s ++ t);
-        })
+              (λ i. drop (r .from i) (take ((r .to ∙ length-take-le (held now + n) out (c .fits)) i) out))
+              ∙ ap (drop (one .at)) (both ∙ ap (λ u. u ++ t) (w .done .waits) ∙ sym (drop-append-le (run .at) s t in-s))
+              ∙ drop-drop (one .at) (run .at) (s ++ t) ∙ sym (ap (λ (x : Run). drop (x .at) (s ++ t)) all);
+          all =
+              ap (λ x. x .octets) (r .reads) ∙ ap (λ k. up k n) (w .done .all) ∙ up-up 0 (length s) n
+              ∙ ap (up 0) (sym (length-append s t ∙ ap (λ k. length s + k) long));
+        }
 
-  -- a turn goes on, or the run is over
+    -- it goes on, and some came; or the run is over
+    came-on : then .going ≡ Going.On → (u : List ℕ) × Waits u out m then × (length s < length u)
+    came-on e =
+        let d = done-on (s ++ t) out m then (eqb n 0) came-done e in
+        (s ++ t, d .0, omega (arith, length-append s t, long, eqb-false n 0 (d .1)))
+
+    came-over : then .going ≡ Going.Over → Worn m then
+    came-over =
+        done-over (s ++ t) out m then (eqb n 0) came-done
+        (λ e. ap (λ x. x .input) (c .ran .reads) ∙ ap (λ b. pick b Going.Over Going.On) e)
+
+  -- a turn goes on, or the run is over, or the read failed
   module _ (out : List ℕ) (m : Ledger) (then : Turn) where
-    came-octets : (c : Came waited l (now .totals) out m then) → Octets (s ++ c .came)
-    came-octets c = octets-both s (c .came) (w .octets) (c .octets)
+    pub turn-on : Turned now buffer l out m then → then .going ≡ Going.On → (u : List ℕ) × Waits u out m then × (length s < length u)
+    turn-on (inl f) e = failed-not (f .0) .0 e
+    turn-on (inr c) e = came-on out m then c e
 
-    came-ran : (c : Came waited l (now .totals) out m then)
-        → Ran (s ++ c .came) (runOver (s ++ c .came) (eqb (length (c .came)) 0) fresh) out m then
-    came-ran c = all-ran (c .came) (c .octets) (eqb (length (c .came)) 0) out m then (c .ran)
+    pub turn-ends : Turned now buffer l out m then → (then .going ≡ Going.On → ⊥) → Turns m then
+    turn-ends (inl f) off = record {
+      over = λ e. failed-not (f .0) .1 e;
+      failed = λ e. ap (λ x. x .input) (f .1);
+      on = λ e. absurd (off e);
+    }
+    turn-ends (inr c) off = record {
+      over = came-over out m then c;
+      failed = λ e. never-failed (one out m then c .ending) (sym (c .ran .going) ∙ e);
+      on = λ e. absurd (off e);
+    }
 
-    pub turn-on : Turned waited l (now .totals) out m then → then .going ≡ Going.On → (u : List ℕ) × Waits u out m then
-    turn-on (inl f) e = failed-not f .0 e
-    turn-on (inr c) e = (s ++ c .came, ran-on _ out m then (came-octets c) _ (came-ran c) e)
-
-    pub turn-over : Turned waited l (now .totals) out m then → then .going ≡ Going.Over → Worn m (then .totals)
-    turn-over (inl f) e = failed-not f .1 e
-    turn-over (inr c) e = ran-over _ out m then (came-octets c) _ (came-ran c) e
+  -- turns are used up
+  pub waits-last : 2 ^ 64 - 1 ≤ length s → now .going ≡ Going.On → Turns l now
+  waits-last h e = record { over = on-not-over e; failed = λ f. failed-not f .0 e; on = λ e. w .done .all ∙ up-most (length s) h }
 
 -- The ledger of a whole feed has 256 rows at most.
-pub worn-few : (l : Ledger) (t : Totals) → Worn l t → l .count ≤ 256
-worn-few l t w = subst Kept (sym (w .rows)) (kept-run (suc (length (w .feed))) (w .feed) true fresh good-none) .few
+pub worn-few : (l : Ledger) (last : Turn) → Worn l last → l .count ≤ 256
+worn-few l last w = subst Kept (sym (w .rows)) (kept-run (suc (length (w .feed))) (w .feed) true fresh good-none) .few
+
+-- Nothing can be printed before the first read.
+unread-feed : (s : List ℕ) → 0 ≡ up 0 (length s) → runOver s false fresh .ending ≡ Ending.Stopped → ⊥
+unfolding runFrom nextOf
+unread-feed [] h e = let z : _≡_ {A = ℕ} 0 1 = cc in omega arith
+unread-feed (x ∷ s) h e =
+    test (leb (2 ^ 64) (suc (length s)))
+    (λ t. let w = up-high 0 (suc (length s)) (omega (arith, leb-true (2 ^ 64) (suc (length s)) t)) in omega arith)
+    (λ f. let w = up-low 0 (suc (length s)) (omega (arith, leb-false (2 ^ 64) (suc (length s)) f)) in omega arith)
+
+pub unread-none : (l : Ledger) (now : Turn) → now .reads ≡ unread → Worn l now → ⊥
+unread-none l now u w =
+    ⊎-elim (λ e. on-not-over (ap (λ x. x .input) u) e) (unread-feed (w .feed) (sym (ap (λ x. x .octets) u) ∙ w .all)) (w .whole)

@@ -1,26 +1,46 @@
--- What a turn of the program does, and what it has done when the input is over (01 "Worked examples", the program `wear`).
-use mathlib.Core.List.{List, _++_}
+-- What the reads give, what a turn of the program does, and what it has done when the input is over (01 "Worked examples", the program `wear`).
+use mathlib.Core.Bool.{false}
+use mathlib.Core.List.{List, []}
 use mathlib.Core.Logic.{_⊎_}
 use mathlib.Core.Path.{_≡_}
-use Prim.Native.Nat.{ℕ, _-_, _≤_}
+use Prim.Native.Nat.{ℕ, _+_, _-_, _^_, _≤_, _<_}
 use lib.Dec.{eqb}
+use lib.IntN.{ℤ, pos, negsuc}
 use lib.ListN.{length, take, drop}
+use Rattle.libc.specs.Io.{Moved}
+use Rattle.octets.specs.Choice.{pick}
 use Rattle.octets.specs.Numbers.{Octets}
 use Rattle.ledger.specs.Ledgers.{rowsOf, ledgerOf}
 use Rattle.ledger.specs.declared.Ledger.{Ledger}
-use Rattle.feed.specs.Runs.{Run, state, runOver, wearOf}
+use Rattle.feed.specs.Totals.{up}
+use Rattle.feed.specs.Runs.{Run, state, runOver, wearOf, zeros}
 use Rattle.feed.specs.declared.run.Ending.{Ending}
 use Rattle.feed.specs.declared.run.Ending.the-variants as ending
-use Rattle.feed.specs.declared.totals.Totals.{Totals}
-use Rattle.wear.specs.declared.input.Going.{Going}
-use Rattle.wear.specs.declared.input.Input.{Input}
-use Rattle.wear.specs.declared.input.Input.the-variants as input
 use Rattle.wear.specs.declared.input.Turn.{Turn}
+use Rattle.wear.specs.declared.reads.Going.{Going}
+use Rattle.wear.specs.declared.reads.Input.{Input}
+use Rattle.wear.specs.declared.reads.Reads.{Reads}
 
--- what came lies in the buffer, behind the octets held
-abbrev pub Within : ℕ → List ℕ → Input → Type 0
-Within held buffer (input.Came n) = n ≤ length buffer - held
-Within held buffer input.Failed = Unit {0}
+-- Nothing has been read; a read gave so many octets, none of them at the end of the input; a read failed.
+abbrev pub unread : Reads
+unread = record { octets = 0; input = Going.On }
+
+abbrev pub heard : Reads → ℕ → Reads
+heard before n = record { octets = up (before .octets) n; input = pick (eqb n 0) Going.Over Going.On }
+
+abbrev pub unheard : Reads → Reads
+unheard before = record { octets = before .octets; input = Going.Failed }
+
+-- by what the system answers: a number of octets, or one below 0
+abbrev pub inputOf : Reads → ℤ → Input
+inputOf before (pos n) = Input.Came n (heard before n)
+inputOf before (negsuc n) = Input.Failed (unheard before)
+
+-- a read with so much room was answered
+pub record Heard (room : ℕ) (before : Reads) (input : Input) : Type 0 where
+  pub got : ℤ
+  pub moved : Moved room got
+  pub said : input ≡ inputOf before got
 
 -- only a run that waits goes on
 abbrev pub goingOf : Ending → Going
@@ -28,27 +48,57 @@ goingOf ending.More = Going.On
 goingOf ending.Ended = Going.Over
 goingOf ending.Stopped = Going.Over
 
--- A run over octets is done: its rows are in the ledger, its totals in the turn, and what it left waits at the front of the buffer.
-pub record Ran (s : List ℕ) (r : Run) (buffer : List ℕ) (l : Ledger) (turn : Turn) : Type 0 where
+-- A run over octets is done: its rows are in the ledger, its totals in the turn, and what it left of them waits.
+pub record Ran (s : List ℕ) (r : Run) (l : Ledger) (told : Reads) (turn : Turn) : Type 0 where
   pub rows : l ≡ ledgerOf (r .state .rows)
   pub totals : turn .totals ≡ r .state .totals
   pub going : turn .going ≡ goingOf (r .ending)
-  pub many : turn .held ≡ length s - r .at
-  pub waits : take (turn .held) buffer ≡ drop (r .at) s
+  pub from : turn .from ≡ r .at
+  pub to : turn .to ≡ length s
+  pub reads : turn .reads ≡ told
 
--- Octets came behind those that waited, and a run over both is done. Where none came, the input is over.
-pub record Came (waited : List ℕ) (l₀ : Ledger) (t₀ : Totals) (buffer : List ℕ) (l : Ledger) (turn : Turn) : Type 0 where
-  pub came : List ℕ
-  pub octets : Octets came
-  pub ran : Ran (waited ++ came) (runOver (waited ++ came) (eqb (length came) 0) (state (rowsOf l₀) t₀)) buffer l turn
+-- how many octets wait, and which
+abbrev pub held : Turn → ℕ
+held turn = turn .to - turn .from
 
--- A turn: the read failed, or octets came.
-abbrev pub Turned : List ℕ → Ledger → Totals → List ℕ → Ledger → Turn → Type 0
-Turned waited l₀ t₀ buffer l turn = (turn .going ≡ Going.Failed) ⊎ Came waited l₀ t₀ buffer l turn
+abbrev pub waiting : Turn → List ℕ → List ℕ
+waiting turn buffer = drop (turn .from) (take (turn .to) buffer)
 
--- The ledger and the totals of a whole feed.
-pub record Worn (l : Ledger) (t : Totals) : Type 0 where
+-- they stand in the buffer, and leave room
+pub record Waiting (turn : Turn) (buffer : List ℕ) : Type 0 where
+  pub order : turn .from ≤ turn .to
+  pub within : turn .to ≤ length buffer
+  pub room : held turn < length buffer
+
+-- So many octets came. The buffer begins with those that waited, what came stands behind them, and a run over just these is done. Where none came, the
+-- input is over.
+pub record Came (before : Turn) (buffer₀ : List ℕ) (l₀ : Ledger) (buffer : List ℕ) (l : Ledger) (turn : Turn) : Type 0 where
+  pub n : ℕ
+  pub fits : held before + n ≤ length buffer
+  pub octets : Octets buffer
+  pub kept : take (held before) buffer ≡ waiting before buffer₀
+  pub ran :
+      Ran (take (held before + n) buffer)
+      (runOver (take (held before + n) buffer) (eqb n 0) (state (rowsOf l₀) (before .totals)))
+      l (heard (before .reads) n) turn
+
+-- A turn: octets came, or the read failed.
+abbrev pub Turned : Turn → List ℕ → Ledger → List ℕ → Ledger → Turn → Type 0
+Turned before buffer₀ l₀ buffer l turn =
+    ((turn .going ≡ Going.Failed) × (turn .reads ≡ unheard (before .reads))) ⊎ Came before buffer₀ l₀ buffer l turn
+
+-- The ledger and the totals of a feed that has as many octets as the reads have given, and of which nothing is to come: the last read gave nothing, or
+-- the run has stopped. Before the first read there is none (proofs/TurnLaws.antt `unread-none`).
+pub record Worn (l : Ledger) (turn : Turn) : Type 0 where
   pub feed : List ℕ
   pub octets : Octets feed
+  pub all : turn .reads .octets ≡ up 0 (length feed)
+  pub whole : (turn .reads .input ≡ Going.Over) ⊎ (runOver feed false (state [] zeros) .ending ≡ Ending.Stopped)
   pub rows : l ≡ ledgerOf (wearOf feed .rows)
-  pub totals : t ≡ wearOf feed .totals
+  pub totals : turn .totals ≡ wearOf feed .totals
+
+-- Turn after turn: where the run is over, it is that; otherwise a read failed, or more octets have come than can be counted.
+pub record Turns (l : Ledger) (turn : Turn) : Type 0 where
+  pub over : turn .going ≡ Going.Over → Worn l turn
+  pub failed : turn .going ≡ Going.Failed → turn .reads .input ≡ Going.Failed
+  pub on : turn .going ≡ Going.On → turn .reads .octets ≡ 2 ^ 64 - 1

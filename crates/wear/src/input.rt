@@ -5,42 +5,22 @@ ghost use lib.ListN.{length, take, drop};
 ghost use Rattle.ledger.specs.Ledgers.{columns, rowsOf};
 ghost use Rattle.ledger.specs.Steps.{Kept};
 ghost use Rattle.feed.specs.Runs.{state, runOver};
-ghost use Rattle.wear.specs.Turns.{Within, goingOf, Ran, Turned};
+ghost use Rattle.wear.specs.Turns.{goingOf, Waiting, Ran, Turned};
+use crate::reads::Going;
+use crate::reads::Input;
+use crate::reads::Reads;
+use crate::reads::read_behind;
 use feed::run::Ending;
 use feed::run::run;
 use feed::totals::Totals;
 
-// What a read gave: so many octets, none of them at the end of the input; or it failed.
-pub enum Input {
-    Came(usize),
-    Failed,
-}
-
-// Whether the run goes on, is over, or a read failed.
-pub enum Going {
-    On,
-    Over,
-    Failed,
-}
-
-// How many octets wait at the front of the buffer, what has been counted, and whether the run goes on.
+// Between which offsets of the buffer octets wait, what has been counted, whether the run goes on, and what the reads have given.
 pub struct Turn {
-    pub held: usize,
+    pub from: usize,
+    pub to: usize,
     pub totals: Totals,
     pub going: Going,
-}
-
-// One read behind what is held.
-fn read_behind(buffer: &mut [u8], held: usize) -> Input
-    requires { ⌜ held ≤ length (now buffer) ⌝ }
-    ensures { λ r. ⌜ (take held (now (buffer .exit)) ≡ take held (now (buffer .entry))) × Within held (now (buffer .exit)) r ⌝ }
-{
-    let space = &mut buffer[held..];
-    let got = libc::read(0, space);
-    if got < 0 {
-        return Input::Failed;
-    }
-    Input::Came(io::count(got, space))
+    pub reads: Reads,
 }
 
 // Moves what stands between two offsets to the front of the buffer, and tells how much it is.
@@ -71,42 +51,35 @@ fn going_of(ending: Ending) -> Going
     }
 }
 
-// A run over the first octets of the buffer, of which what is left then waits at its front.
+// A run over the octets at the front of the buffer; what it leaves of them waits.
 fn run_front(
-    buffer: &mut [u8],
-    end: usize,
+    s: &[u8],
     is_over: bool,
     count: &mut usize,
     keys: &mut [u32; 256],
     lives: &mut [u64; 256],
     readings: &mut [u32; 256],
     totals: Totals,
+    reads: Reads,
 ) -> Turn
-    requires { ⌜ (end ≤ length (now buffer)) × Kept (columns (now count) (now keys) (now lives) (now readings)) ⌝ }
-    ensures { λ r. ⌜ Ran (take end (now (buffer .entry)))
-        (runOver (take end (now (buffer .entry))) «is_over» (state (rowsOf (columns (now (count .entry)) (now (keys .entry)) (now (lives .entry)) (now (readings .entry)))) totals))
-        (now (buffer .exit)) (columns (now (count .exit)) (now (keys .exit)) (now (lives .exit)) (now (readings .exit))) r ⌝ }
+    requires { ⌜ Kept (columns (now count) (now keys) (now lives) (now readings)) ⌝ }
+    ensures { λ r. ⌜ Ran (now (s .entry))
+        (runOver (now (s .entry)) «is_over» (state (rowsOf (columns (now (count .entry)) (now (keys .entry)) (now (lives .entry)) (now (readings .entry)))) totals))
+        (columns (now (count .exit)) (now (keys .exit)) (now (lives .exit)) (now (readings .exit))) reads r ⌝ }
 {
-    let done = run(
-        count,
-        keys,
-        lives,
-        readings,
-        &buffer[..end],
-        is_over,
-        totals,
-    );
+    let done = run(count, keys, lives, readings, s, is_over, totals);
     let after = done.totals;
     let ending = done.ending;
-    let held = keep(buffer, done.at, end);
     Turn {
-        held,
+        from: done.at,
+        to: s.len(),
         totals: after,
         going: going_of(ending),
+        reads,
     }
 }
 
-// One read behind what is held, and a run over both. A read of nothing is the end of the input; one that fails is not.
+// What waits goes to the front, one read comes behind it, and a run goes over both. A read of nothing is the end of the input; one that fails is not.
 pub(crate) fn take_turn(
     buffer: &mut [u8],
     count: &mut usize,
@@ -115,30 +88,34 @@ pub(crate) fn take_turn(
     readings: &mut [u32; 256],
     before: Turn,
 ) -> Turn
-    requires { ⌜ (before .held < length (now buffer)) × Kept (columns (now count) (now keys) (now lives) (now readings)) ⌝ }
-    ensures { λ r. ⌜ Turned (take (before .held) (now (buffer .entry)))
-        (columns (now (count .entry)) (now (keys .entry)) (now (lives .entry)) (now (readings .entry))) (before .totals)
+    requires { ⌜ Waiting before (now buffer) × Kept (columns (now count) (now keys) (now lives) (now readings)) ⌝ }
+    ensures { λ r. ⌜ Turned before (now (buffer .entry))
+        (columns (now (count .entry)) (now (keys .entry)) (now (lives .entry)) (now (readings .entry)))
         (now (buffer .exit)) (columns (now (count .exit)) (now (keys .exit)) (now (lives .exit)) (now (readings .exit))) r ⌝ }
 {
-    let held = before.held;
     let totals = before.totals;
-    let input = read_behind(buffer, held);
+    let reads = before.reads;
+    let held = keep(buffer, before.from, before.to);
+    let input = read_behind(buffer, held, reads);
     match input {
-        Input::Failed => Turn {
-            held,
+        Input::Failed(told) => Turn {
+            from: 0,
+            to: held,
             totals,
             going: Going::Failed,
+            reads: told,
         },
-        Input::Came(n) => {
+        Input::Came(n, told) => {
+            let end = held + n;
             run_front(
-                buffer,
-                held + n,
+                &buffer[..end],
                 n == 0,
                 count,
                 keys,
                 lives,
                 readings,
                 totals,
+                told,
             )
         }
     }

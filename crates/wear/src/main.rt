@@ -3,15 +3,15 @@ ghost use mathlib.Core.List.{[]};
 ghost use mathlib.Core.Path.{_≡_};
 ghost use lib.ListN.{length};
 ghost use Rattle.ledger.specs.Ledgers.{columns, ledgerOf};
-ghost use Rattle.wear.specs.Turns.{Worn};
-ghost use Rattle.wear.specs.declared.input.Going.{Going};
+ghost use Rattle.wear.specs.Turns.{Turns};
 
 mod input;
 mod panel;
+mod reads;
 
-use crate::input::Going;
 use crate::input::Turn;
 use crate::input::take_turn;
+use crate::reads::Going;
 use feed::totals::Totals;
 
 // Turns until the run is over or a read fails. A proved loop has to end, and nothing says that the input does: it counts its turns down, from a
@@ -24,10 +24,11 @@ fn turns(
     readings: &mut [u32; 256],
 ) -> Turn
     requires { ⌜ (length (now buffer) ≡ 131072) × (columns (now count) (now keys) (now lives) (now readings) ≡ ledgerOf []) ⌝ }
-    ensures { λ r. ⌜ (r .going ≡ Going.Over → Worn (columns (now (count .exit)) (now (keys .exit)) (now (lives .exit)) (now (readings .exit))) (r .totals)) ⌝ }
+    ensures { λ r. ⌜ Turns (columns (now (count .exit)) (now (keys .exit)) (now (lives .exit)) (now (readings .exit))) r ⌝ }
 {
     let mut now = Turn {
-        held: 0,
+        from: 0,
+        to: 0,
         totals: Totals {
             accepted: 0,
             refused: 0,
@@ -35,6 +36,7 @@ fn turns(
             unposted: 0,
         },
         going: Going::On,
+        reads: reads::none(),
     };
     let mut left = u64::MAX;
     while 0 < left {
@@ -65,8 +67,7 @@ fn main() {
     );
     let going = last.going;
     if let Going::Over = going {
-        let totals = last.totals;
-        panel::print(count, &keys, &lives, &readings, totals);
+        panel::print(count, &keys, &lives, &readings, last);
     } else {
         io::write_all(
             2,

@@ -2,7 +2,7 @@
 ghost use Prim.Native.Nat.{_≤_};
 ghost use Rattle.ledger.specs.Ledgers.{columns};
 ghost use Rattle.wear.specs.Turns.{Worn};
-use feed::totals::Totals;
+use crate::input::Turn;
 
 // The four octets of a key.
 fn octets_of(key: u32) -> [u8; 4] {
@@ -49,16 +49,17 @@ fn rows(
     at
 }
 
-// Only for the ledger and the totals of a whole feed.
+// Only for the ledger and the totals of a whole feed, at the turn with which its reads have come to an end.
 pub(crate) fn print(
     count: usize,
     keys: &[u32; 256],
     lives: &[u64; 256],
     readings: &[u32; 256],
-    totals: Totals,
+    last: Turn,
 )
-    requires { ⌜ Worn (columns count (now keys) (now lives) (now readings)) totals ⌝ }
+    requires { ⌜ Worn (columns count (now keys) (now lives) (now readings)) last ⌝ }
 {
+    let totals = last.totals;
     let mut space = [0u8; 4096];
     let text: &mut [u8] = &mut space;
     let head = text::emit_all(text, 0, b"counter life reading\n");

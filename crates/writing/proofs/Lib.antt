@@ -7,6 +7,8 @@ pub mod GoodLaws
 pub mod BlockSteps
 pub mod RewriteSteps
 pub mod RewriteTheorems
+pub mod OctetsRewritten
 pub mod WriteTheorems
 pub mod WriteSteps
 pub mod ReadBackTheorems
+pub mod SameRecords

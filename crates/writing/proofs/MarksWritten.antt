@@ -21,7 +21,7 @@ use Rattle.items.specs.Typed.{traceOf}
 use Rattle.blocks.specs.Specification.{zeros, putMarks, flags}
 use Rattle.blocks.specs.Presence.{Row, rowsOf, meets}
 use Rattle.blocks.specs.Marks.{flagsOf}
-use Rattle.blocks.specs.Records.{formats, marksSpare, layoutOf, marksRefusal, typeOf, present, putRec}
+use Rattle.blocks.specs.Records.{formats, marksSpare, layoutOf, marksRefusal, valueOr, typeOf, present, putRec}
 use Rattle.blocks.specs.Meaning.{itemIn, sevens, valuesOf, recOf}
 use Rattle.blocks.specs.declared.record.Record.{Record}
 use Rattle.blocks.proofs.MeaningLaws.{two, low-bit}
@@ -246,7 +246,7 @@ module _ (n m : ℕ) (c : Category) (w : Table n c) (l : m < 2 ^ length (c .fiel
 
 -- the value of item 000
 module _ (s : List ℕ) (t : Record) where
-  field-two : (b : Bool) → getD (getD (pick b (traceOf s (itemIn t Form.MessageType)) []) 0 []) 0 0 ≡ pick b (t .«message_type») 0
+  field-two : (b : Bool) → valueOr 0 (pick b (traceOf s (itemIn t Form.MessageType)) []) ≡ pick b (t .«message_type») 0
   field-two true = refl
   field-two false = refl
 

@@ -32,7 +32,7 @@ joined a b o p i = go (ltb i (length a)) refl
 none : Octets []
 none i = omega arith
 
-one : (x : ℕ) (xs : List ℕ) → x < 256 → Octets xs → Octets (x ∷ xs)
+pub one : (x : ℕ) (xs : List ℕ) → x < 256 → Octets xs → Octets (x ∷ xs)
 one x xs h o zero = h
 one x xs h o (suc i) = o i
 
@@ -83,10 +83,19 @@ unfolding putRec
 record-are c r h =
     joined (putMarks (r .marks)) (putItems (layoutOf c (r .marks)) (r .items) []) (marks-are (r .marks) h) (items-are (layoutOf c (r .marks)) (r .items) [])
 
--- a block of one record
-pub block-are : (cat : ℕ) (r : Rec) → cat < 256 → Sevens (r .marks) → Octets (putBlock cat (r ∷ []))
-unfolding putBlock putRecs
-block-are cat r k h =
-    let body = putRec (category cat) r ++ [] in
+-- records whose marks are seven to a number
+abbrev pub AllSevens : List Rec → Type 0
+AllSevens [] = Unit {0}
+AllSevens (r ∷ rs) = Sevens (r .marks) × AllSevens rs
+
+records-are : (c : Category) (rs : List Rec) → AllSevens rs → Octets (putRecs c rs)
+unfolding putRecs
+records-are c [] h = none
+records-are c (r ∷ rs) h = joined (putRec c r) (putRecs c rs) (record-are c r (h .0)) (records-are c rs (h .1))
+
+pub block-are : (cat : ℕ) (rs : List Rec) → cat < 256 → AllSevens rs → Octets (putBlock cat rs)
+unfolding putBlock
+block-are cat rs k h =
+    let body = putRecs (category cat) rs in
     let len = octets 2 (3 + length body) in
-    one cat (len ++ body) k (joined len body (octets-are 2 (3 + length body)) (joined (putRec (category cat) r) [] (record-are (category cat) r h) none))
+    one cat (len ++ body) k (joined len body (octets-are 2 (3 + length body)) (records-are (category cat) rs h))

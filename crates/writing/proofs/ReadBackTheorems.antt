@@ -2,7 +2,7 @@
 use mathlib.Core.Path.{_≡_, refl, sym, ap, _∙_, subst}
 use mathlib.Core.Bool.{Bool, true, false, false≢true}
 use mathlib.Core.List.{List, [], _∷_, _++_}
-use Prim.Native.Nat.{ℕ, zero, suc, _+_, _*_, _/_, _%_, _^_, _<_}
+use Prim.Native.Nat.{ℕ, zero, suc, _+_, _*_, _/_, _%_, _^_, _<_, _≤_}
 use native.Mathlib.Nat.{add-zero, mul-one, pow-suc, div-lt-iff-lt-mul, zero-lt-suc}
 use native.Mathlib.Omega.{arith}
 use borrow.Author.Tests.{eqb-true, eqb-false, leb-false, le-leb}
@@ -16,7 +16,7 @@ use Rattle.layouts.specs.Formats.{got, Trace}
 use Rattle.layouts.specs.Offsets.{groupsAt}
 use Rattle.layouts.specs.Layouts.{octet}
 use Rattle.layouts.specs.Tables.{counter, version}
-use Rattle.layouts.specs.Categories.{known, category}
+use Rattle.layouts.specs.Categories.{known, category, entriesForm}
 use Rattle.layouts.specs.declared.form.Form.{Form}
 use Rattle.layouts.specs.declared.form.Form.the-variants as form
 use Rattle.items.specs.Typed.{itemOf, settled, placed, givenTrace, traceOf}
@@ -29,7 +29,7 @@ use Rattle.blocks.specs.Records.{Rec}
 use Rattle.blocks.specs.Blocks.{all, blockOf}
 use Rattle.blocks.specs.Offsets.{recordAt}
 use Rattle.blocks.specs.Walks.{readOf}
-use Rattle.blocks.specs.Typed.{nowhere, entriesForm, typed, absent, fieldFor, placeIn, valuesFor, startFor, typedRec}
+use Rattle.blocks.specs.Typed.{nowhere, typed, absent, fieldFor, placeIn, valuesFor, startFor, typedRec}
 use Rattle.blocks.specs.Steps.{itemsFrom, stepOf, entryGroupOf, entryValues, foundOf, entryIn, entryOf}
 use Rattle.blocks.specs.Meaning.{itemIn, valuesOf, recOf}
 use Rattle.blocks.specs.Boundaries.{Joined}
@@ -82,7 +82,7 @@ same-octet x s o o' p q h j l =
 -- The record that a typed record means
 
 -- marks as a number are that number
-marks-flags : (n m : ℕ) → m < 2 ^ n → marksOf (flagsOf n m) ≡ m
+pub marks-flags : (n m : ℕ) → m < 2 ^ n → marksOf (flagsOf n m) ≡ m
 unfolding marksOf flagsOf
 marks-flags zero m l = omega arith
 marks-flags (suc n) m l =
@@ -173,41 +173,43 @@ no-item form.Versions = refl
 no-item form.Expansion = refl
 no-item form.Purpose = refl
 
--- A block of one record
+-- A record of a block, from an offset to the next
 
-record One (x : List ℕ) (cat len : ℕ) (r : Rec) : Type 0 where
-  head : headerOf x ≡ Head.Good cat len
-  is : recordAt x len (category cat) 3 ≡ got r len
-  more : 3 < len
+pub record One (x : List ℕ) (cat len at next : ℕ) (r : Rec) : Type 0 where
+  pub head : headerOf x ≡ Head.Good cat len
+  pub low : 3 ≤ at
+  pub more : at < len
+  pub is : recordAt x len (category cat) at ≡ got r next
 
+-- the one of a block that has one
 module _ (x : List ℕ) (cat len : ℕ) (r : Rec) where
-  one-joined : headerOf x ≡ Head.Good cat len → Joined x len (category cat) 3 (r ∷ []) len → One x cat len r
-  one-joined h (q, e, a, b, end) = record { head = h; is = rw end at e; more = omega arith }
+  one-joined : headerOf x ≡ Head.Good cat len → Joined x len (category cat) 3 (r ∷ []) len → One x cat len 3 len r
+  one-joined h (q, e, a, b, end) = record { head = h; low = omega arith; more = omega arith; is = rw end at e }
 
-  read-one : Octets x → readOf x ≡ Reading.Accepted len 1 → blockOf x ≡ all cat (r ∷ []) → One x cat len r
+  read-one : Octets x → readOf x ≡ Reading.Accepted len 1 → blockOf x ≡ all cat (r ∷ []) → One x cat len 3 len r
   read-one o h e =
       let w = read-filled x len 1 o h in
       go (w .0) (w .1) (sym (w .5) ∙ e) (w .2) (w .3)
     where
       go : (cat' : ℕ) (rs : List Rec) → all cat' rs ≡ all cat (r ∷ []) → headerOf x ≡ Head.Good cat' len
-          → Joined x len (category cat') 3 rs len → One x cat len r
+          → Joined x len (category cat') 3 rs len → One x cat len 3 len r
       go cat' rs same h j =
           let a : cat' ≡ cat = cc in
           let b : rs ≡ r ∷ [] = cc in
           one-joined (rw a at h) (subst (λ (l : List Rec). Joined x len (category cat) 3 l len) b (rw a at j))
 
--- What is read of a typed record that was written
+-- What is read where a block has the record that a typed record means
 
 module _ (s : List ℕ) (o : Octets s) (t : Record) (w : Fine s t) (small : t .marks < 4294967296)
-    (x : List ℕ) (ox : Octets x) (len : ℕ) (got-one : One x (t .category) len (recOf s t)) where
+    (x : List ℕ) (ox : Octets x) (len at next : ℕ) (got-one : One x (t .category) len at next (recOf s t)) where
   abbrev from : ℕ
-  from = itemsFrom x len (category (t .category)) 3
+  from = itemsFrom x len (category (t .category)) at
 
-  abbrev back : Record
+  abbrev pub back : Record
   back = typedRec x len (category (t .category)) (recOf s t) from
 
-  back-step : stepOf x 3 ≡ Step.Taken back (record { at = len })
-  back-step = step-read x (t .category) len (got-one .head) 3 len (recOf s t) (omega arith) (got-one .more) (got-one .is)
+  pub back-step : stepOf x at ≡ Step.Taken back (record { at = next })
+  back-step = step-read x (t .category) len (got-one .head) at next (recOf s t) (got-one .low) (got-one .more) (got-one .is)
 
   back-category : back .category ≡ t .category
   unfolding typedRec
@@ -221,7 +223,7 @@ module _ (s : List ℕ) (o : Octets s) (t : Record) (w : Fine s t) (small : t .m
       rw (flags-sevens (c .most) (t .marks), long) (marks-flags (length (c .fields)) (t .marks) (by-fields s t (w .known) small (w .marks)))
 
   back-means : recOf x back ≡ recOf s t
-  back-means = means-read x len (t .category) 3 ox (w .known) (recOf s t) len (got-one .is)
+  back-means = means-read x len (t .category) at ox (w .known) (recOf s t) next (got-one .is)
 
   -- the item of a form, by its values: where its entries or content start
   abbrev placed-at : Form → Trace → ℕ
@@ -243,8 +245,8 @@ module _ (s : List ℕ) (o : Octets s) (t : Record) (w : Fine s t) (small : t .m
       let own : f ≡ otherForm (t .category) → ⊥
       = λ e. false≢true (sym (other-none (t .category) (w .known) (t .marks)) ∙ ap (has t) (sym e) ∙ h) in
       let tr = traceOf s (itemIn t f) in
-      let at = placed-at f tr in
-      (at, back-item f own true h ∙ ap (λ (g : Form). itemOf g tr at) (sym (form-in t f)) ∙ typed-back s at (itemIn t f))
+      let p = placed-at f tr in
+      (p, back-item f own true h ∙ ap (λ (g : Form). itemOf g tr p) (sym (form-in t f)) ∙ typed-back s p (itemIn t f))
 
   -- not marked, it is all zero
   back-absent : (f : Form) → (f ≡ otherForm (t .category) → ⊥) → has t f ≡ false → itemIn back f ≡ itemIn absent f
@@ -254,7 +256,7 @@ module _ (s : List ℕ) (o : Octets s) (t : Record) (w : Fine s t) (small : t .m
   back-values : (f : Form) → has t f ≡ true → traceOf x (itemIn back f) ≡ traceOf s (itemIn t f)
   back-values = same-values s t x back back-category back-marks back-means
 
-  back-same : Same s t x back
+  pub back-same : Same s t x back
   back-same = record {
     category = back-category;
     marks = back-marks;
@@ -266,9 +268,9 @@ module _ (s : List ℕ) (o : Octets s) (t : Record) (w : Fine s t) (small : t .m
   }
 
   -- its entries
-  back-entry : (k : ℕ) → entryOf x 3 k ≡ entryIn x (t .category) (back .entries .at) (back .entries .count) k
+  pub back-entry : (k : ℕ) → entryOf x at k ≡ entryIn x (t .category) (back .entries .at) (back .entries .count) k
   back-entry k =
-      sym (entry-taken x 3 k back (record { at = len }) (sym back-step) _ refl)
+      sym (entry-taken x at k back (record { at = next }) (sym back-step) _ refl)
       ∙ ap (λ (n : ℕ). entryIn x n (back .entries .at) (back .entries .count) k) back-category
 
   module _ (h : has t (entriesForm (t .category)) ≡ true) where
@@ -278,7 +280,7 @@ module _ (s : List ℕ) (o : Octets s) (t : Record) (w : Fine s t) (small : t .m
         let b = eqb (t .category) 242 in
         sym (entries-trace x back b) ∙ back-values (entriesForm (t .category)) h ∙ entries-trace s t b
 
-    back-found : (k : ℕ) → entryIn x (t .category) (back .entries .at) (back .entries .count) k
+    pub back-found : (k : ℕ) → entryIn x (t .category) (back .entries .at) (back .entries .count) k
         ≡ entryIn s (t .category) (t .entries .at) (t .entries .count) k
     unfolding entryIn
     back-found k =
@@ -294,13 +296,15 @@ module _ (s : List ℕ) (o : Octets s) (t : Record) (w : Fine s t) (small : t .m
         go true l = refl
         go false l = ap (foundOf cat) (same-entry x s 0 (entryGroupOf cat) (back .entries) (t .entries) entries-same k (l refl))
 
-  back-none : has t (entriesForm (t .category)) ≡ false → back .entries .count ≡ 0
-  back-none h = go (eqb (t .category) 242) (back-absent (entriesForm (t .category)) (two-forms (eqb (t .category) 242)) h)
-    where
-      go : (b : Bool) → itemIn back (pick b Form.Versions Form.Statistics) ≡ itemIn absent (pick b Form.Versions Form.Statistics)
-          → back .entries .count ≡ 0
-      go true e = let z : back .entries ≡ nowhere = cc in ap (λ (p : Place). p .count) z
-      go false e = let z : back .entries ≡ nowhere = cc in ap (λ (p : Place). p .count) z
+-- Of a record with no entries the other has none.
+pub none-same : (s : List ℕ) (t : Record) (x : List ℕ) (v : Record) → Same s t x v → has t (entriesForm (t .category)) ≡ false
+    → v .entries .count ≡ 0
+none-same s t x v same h = go (eqb (t .category) 242) (same .absent (entriesForm (t .category)) (two-forms (eqb (t .category) 242)) h)
+  where
+    go : (b : Bool) → itemIn v (pick b Form.Versions Form.Statistics) ≡ itemIn absent (pick b Form.Versions Form.Statistics)
+        → v .entries .count ≡ 0
+    go true e = let z : v .entries ≡ nowhere = cc in ap (λ (p : Place). p .count) z
+    go false e = let z : v .entries ≡ nowhere = cc in ap (λ (p : Place). p .count) z
 
 -- What is put out is read back, whatever stands behind it
 module _ (s : List ℕ) (o : Octets s) (t : Record) (small : t .marks < 4294967296) (xs : List ℕ) (h : writeOf s t ≡ puts xs)
@@ -311,27 +315,27 @@ module _ (s : List ℕ) (o : Octets s) (t : Record) (small : t .marks < 42949672
   good : Fine s t
   good = fine s t (accepted s t small xs h .0)
 
-  one : One (xs ++ u) (t .category) (length xs) (recOf s t)
+  one : One (xs ++ u) (t .category) (length xs) 3 (length xs) (recOf s t)
   one = read-one (xs ++ u) (t .category) (length xs) (recOf s t) octets (write-reading s t small xs h u) (write-accepted s t small xs h u)
 
   -- It is read as one record, the one that was given.
   pub write-back : (v : Record) × (stepOf (xs ++ u) 3 ≡ Step.Taken v (record { at = length xs })) × Same s t (xs ++ u) v
   write-back = (
-    back s o t good small (xs ++ u) octets (length xs) one,
-    back-step s o t good small (xs ++ u) octets (length xs) one,
-    back-same s o t good small (xs ++ u) octets (length xs) one,
+    back s o t good small (xs ++ u) octets (length xs) 3 (length xs) one,
+    back-step s o t good small (xs ++ u) octets (length xs) 3 (length xs) one,
+    back-same s o t good small (xs ++ u) octets (length xs) 3 (length xs) one,
   )
 
   -- Each entry asked for by number is the source's.
   pub entry-back : (k : ℕ) → has t (entriesForm (t .category)) ≡ true
       → entryOf (xs ++ u) 3 k ≡ entryIn s (t .category) (t .entries .at) (t .entries .count) k
   entry-back k e =
-      back-entry s o t good small (xs ++ u) octets (length xs) one k
-      ∙ back-found s o t good small (xs ++ u) octets (length xs) one e k
+      back-entry s o t good small (xs ++ u) octets (length xs) 3 (length xs) one k
+      ∙ back-found s o t good small (xs ++ u) octets (length xs) 3 (length xs) one e k
 
   -- Of a record with no entries there is none.
   pub entry-none : (k : ℕ) → has t (entriesForm (t .category)) ≡ false → entryOf (xs ++ u) 3 k ≡ Found.Refused noSuch 0
   unfolding entryIn
   entry-none k e =
-      back-entry s o t good small (xs ++ u) octets (length xs) one k
-      ∙ rw (back-none s o t good small (xs ++ u) octets (length xs) one e, le-leb 0 k (omega arith))
+      back-entry s o t good small (xs ++ u) octets (length xs) 3 (length xs) one k
+      ∙ rw (none-same s t (xs ++ u) _ (back-same s o t good small (xs ++ u) octets (length xs) 3 (length xs) one) e, le-leb 0 k (omega arith))

@@ -101,4 +101,4 @@ module _ (s : List ℕ) (t : Record) (small : t .marks < 4294967296) where
     write-octets =
         let w = fine s t (accepted .0) in
         let cat : t .category < 256 = by-known (λ (n : ℕ). n < 256) (omega arith) (omega arith) (omega arith) (t .category) (w .known) in
-        rw (accepted .1) (block-are (t .category) (recOf s t) cat (sevens-are (category (t .category) .most) (t .marks)))
+        rw (accepted .1) (block-are (t .category) (recOf s t ∷ []) cat (sevens-are (category (t .category) .most) (t .marks), tt))

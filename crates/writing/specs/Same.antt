@@ -18,7 +18,7 @@ use Rattle.blocks.specs.declared.record.Record.{Record}
 abbrev pub has : Record → Form → Bool
 has t f = marked (t .marks) (fieldFor (category (t .category) .fields) f)
 
--- entries of the other form are none of a category's items
+-- entries have one form in a category (`entriesForm`), and those of the other form are none of its items
 abbrev pub otherForm : ℕ → Form
 otherForm number = pick (eqb number 242) Form.Statistics Form.Versions
 

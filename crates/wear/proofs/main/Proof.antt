@@ -11,8 +11,8 @@ turns-requires c κs = (length-replicate {A = ℕ} 131072 0, laws.fresh-columns)
 
 print-requires : tie.Need-print-requires
 print-requires c κs =
-    let turns = c .before .before .before .before .before .before .before in
-    turns .turns .ensures (c .before .before .before .before .enum-told .given .1)
+    let turns = c .before .before .before .before .before .before in
+    turns .turns .ensures .over (c .before .before .before .enum-told .given .1)
 
 pub main-spec : {M : Type 1} → statement M
 main-spec =

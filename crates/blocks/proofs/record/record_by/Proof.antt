@@ -1,7 +1,7 @@
 -- `record_by`: each item is read at its start, and the record is made of what is read. Assumes nothing.
 use mathlib.Core.Path.{_∙_}
 use borrow.Author.Needs.{needs}
-use Rattle.blocks.specs.Typed.{formPlace}
+use Rattle.blocks.specs.Forms.{formNumber}
 use Rattle.blocks.proofs.AtEnd.{octet-type, octet-report}
 use Rattle.blocks.proofs.record.record_by.Statement.{statement}
 use Rattle.blocks.proofs.record.record_by.Tie as tie
@@ -36,7 +36,7 @@ record-by-spec =
     (λ c κs. rw (c .start-of12 .ensures) (c .before .before .before .before .before .before .before .before .before .before .before .before .before .before .before .before .before .before .before .before .before .before .before .before .pre 12))
     (λ c κs. search needs)
     (λ c κs. search needs)
-    (λ c κs. rw (c .start-of13 .ensures) (c .before .before .before .before .before .before .before .before .before .before .before .before .before .before .before .before .before .before .before .before .before .before .before .before .before .before .before .pre (formPlace (c .before .entries-form .result))))
+    (λ c κs. rw (c .start-of13 .ensures) (c .before .before .before .before .before .before .before .before .before .before .before .before .before .before .before .before .before .before .before .before .before .before .before .before .before .before .before .pre (formNumber (c .before .entries-form .result))))
     (λ c κs. search needs)
     (λ c κs. rw (c .start-of14 .ensures) (c .before .before .before .before .before .before .before .before .before .before .before .before .before .before .before .before .before .before .before .before .before .before .before .before .before .before .before .before .before .pre 15))
     (λ c κs. search needs)

@@ -24,15 +24,15 @@ read-records-spec =
     (λ c. search needs)
     (λ c. omega (
       arith,
-      steps.run-more _ _ _ (λ j. c .before .before .before .before .before .before .shared-slice-known .given j .fits) 16 _ _
+      steps.run-more _ _ _ (λ j. c .before .before .before .before .before .before .shared-slice-known .given j .fits) 1 _ _
           (omega arith) (c .before .before .before .before .loop-test .taken) (c .before .before .before .before .before .loop .inv)
           _ (sym (c .before .run .given .1) ∙ c .before .before .before .record-walk .ensures) .0,
     ))
-    (λ c. steps.run-more _ _ _ (λ j. c .before .before .before .before .before .before .shared-slice-known .given j .fits) 16 _ _
+    (λ c. steps.run-more _ _ _ (λ j. c .before .before .before .before .before .before .shared-slice-known .given j .fits) 1 _ _
     (omega arith) (c .before .before .before .before .loop-test .taken) (c .before .before .before .before .before .loop .inv)
     _ (sym (c .before .run .given .1) ∙ c .before .before .before .record-walk .ensures) .1)
     (λ c. search needs)
-    (λ c. steps.run-more _ _ _ (λ j. c .before .before .before .before .before .before .shared-slice-known .given j .fits) 16 _ _
+    (λ c. steps.run-more _ _ _ (λ j. c .before .before .before .before .before .before .shared-slice-known .given j .fits) 1 _ _
     (omega arith) (c .before .before .before .before .loop-test .taken) (c .before .before .before .before .before .loop .inv)
     _ (sym (c .before .run2 .given .1) ∙ c .before .before .before .record-walk .ensures))
     (λ c. steps.passed-all _ _ _ _ _ (c .before .loop .inv) (c .loop-test .left)))

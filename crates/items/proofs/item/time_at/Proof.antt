@@ -1,4 +1,5 @@
-use native.Mathlib.Nat.{div-one}
+use native.Mathlib.Nat.{div-one, mod-eq-of-lt}
+use Rattle.octets.proofs.Numbers.{number-lt}
 use Rattle.layouts.specs.Groups.{values}
 use Rattle.layouts.specs.Offsets.{traceAt}
 use Rattle.layouts.specs.Layouts.{format}
@@ -12,6 +13,7 @@ time-at-spec =
     tie.close
     (tie.spec
     (λ c κs. search needs)
-    (λ c κs. search needs)
-    (λ c. search needs)
-    (λ c. rw (c .read .ensures .0, c .before .first-octets .ensures, div-one)))
+    (λ c.
+    let k = c .before in
+    let a = k .before .args in
+    rw (c .read3 .ensures, div-one, mod-eq-of-lt (number-lt 3 (a .s .now) (a .at) (λ j. k .shared-slice-known .given j .fits)))))

@@ -1,25 +1,23 @@
--- `time_fits`: the three octets spell the number that the format reads. Assumes nothing.
-use Prim.Native.Nat.{_+_}
-use native.Mathlib.Omega.{arith}
+-- `time_fits`: the bits hold what was read, so only the range is tested. Assumes nothing.
+use mathlib.Core.Path.{sym, _∙_}
+use mathlib.Core.Bool.{and-true}
+use lib.Dec.{leb·zero}
 use borrow.Author.Needs.{needs}
-use Rattle.items.proofs.Ranges.{three-alone}
+use Rattle.octets.specs.Numbers.{number}
+use Rattle.layouts.specs.Groups.{values}
+use Rattle.layouts.specs.Offsets.{traceAt}
+use Rattle.layouts.specs.Layouts.{format}
+use Rattle.layouts.specs.Tables.{time}
+use Rattle.items.proofs.Entries.{fits-ranged}
 use Rattle.items.proofs.item.time_fits.Statement.{statement}
 use Rattle.items.proofs.item.time_fits.Tie as tie
 
+returns : tie.Need-returns
+unfolding traceAt format values
+returns c =
+    let t = c .before in
+    let a = t .before .before .args in
+    rw (t .time-at .ensures) (sym (fits-ranged (time .parts) (number 3 (a .s .now) (a .at)) ∙ simp (leb·zero, and-true)))
+
 pub time-fits-spec : {M : Type 1} → statement M
-time-fits-spec =
-    tie.close
-    (tie.spec
-    (λ c. search needs)
-    (λ c. omega (arith, c .shared-slice-known .given (c .before .args .at)))
-    (λ c. omega (arith, c .shared-slice-known .given (c .before .args .at)))
-    (λ c. search needs)
-    (λ c. search needs)
-    (λ c. omega (arith, c .before .shared-slice-known .given (c .before .before .args .at + 1)))
-    (λ c. omega (arith, c .before .shared-slice-known .given (c .before .before .args .at + 1)))
-    (λ c. let a = c .before .before .args .at in omega (arith, c .before .shared-slice-known .given a, c .before .shared-slice-known .given (a + 1)))
-    (λ c. search needs)
-    (λ c. search needs)
-    (λ c. omega (arith, c .before .before .shared-slice-known .given (c .before .before .before .args .at + 2)))
-    (λ c. let k = c .before .before in let a = k .before .args .at in omega (arith, k .shared-slice-known .given a, k .shared-slice-known .given (a + 1), k .shared-slice-known .given (a + 2)))
-    (λ c. let k = c .before .before in three-alone (k .before .args .s .now) (λ j. k .shared-slice-known .given j .fits) (k .before .args .at) _))
+time-fits-spec = tie.close (tie.spec (λ c κs. search needs) returns)

@@ -41,14 +41,11 @@ module _ (s : List ℕ) (p : ℕ) where
   none (suc n) h = absurd (omega arith)
 
 abbrev Inv-loop : tie.InvT-loop
-Inv-loop s at count size p₀ left₀ p left =
+Inv-loop s at count p₀ left₀ p left =
     (left ≤ count) × (p + left * 3 ≤ length s) × (entriesFit count version s at ≡ entriesFit left version s p)
 
 abbrev μ-loop : tie.MeasureT-loop
-μ-loop s at count size p₀ left₀ p left = left
-
-entry-octets-requires : tie.Need-entry-octets-requires Inv-loop μ-loop
-entry-octets-requires c κs = search needs
+μ-loop s at count p₀ left₀ p left = left
 
 loop-holds : tie.Need-loop-holds Inv-loop μ-loop
 loop-holds c = search needs
@@ -91,13 +88,12 @@ loop-again c =
     let d = c .before .before in
     let b = d .before .before in
     let l = b .before .before .loop in
-    let v = b .version-at in
-    let size = b .before .before .before .entry-octets in (
+    let v = b .version-at in (
       search needs,
       search needs,
       l .inv .2
           ∙ next _ (l .p) (l .left) _ (v .ensures) (b .before .loop-test .taken)
-          ∙ rw (le-leb (v .result .main) 99 (d .if1 .left), le-leb (v .result .sub) 99 (c .if2 .left), size .ensures),
+          ∙ rw (le-leb (v .result .main) 99 (d .if1 .left), le-leb (v .result .sub) 99 (c .if2 .left)),
     )
 
 returns-3 : tie.Need-returns-3 Inv-loop μ-loop
@@ -109,7 +105,6 @@ versions-fit-spec =
     (tie.spec
     Inv-loop
     μ-loop
-    entry-octets-requires
     loop-holds
     version-at-requires
     returns

@@ -11,7 +11,7 @@ print-spec =
     (λ c. search needs)
     (λ c. search needs)
     (λ c κs. search needs)
-    (λ c κs. worn-few _ _ (c .before .before .before .before .before .before .before .pre))
+    (λ c κs. worn-few _ _ (c .before .before .before .before .before .before .before .before .pre))
     (λ c. search needs)
     (λ c κs. search needs)
     (λ c. search needs)

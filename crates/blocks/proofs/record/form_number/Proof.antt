@@ -1,10 +1,10 @@
--- `form_place` by the form. Assumes nothing.
+-- `form_number` by the form. Assumes nothing.
 use borrow.Author.Needs.{needs}
-use Rattle.blocks.proofs.record.form_place.Statement.{statement}
-use Rattle.blocks.proofs.record.form_place.Tie as tie
+use Rattle.blocks.proofs.record.form_number.Statement.{statement}
+use Rattle.blocks.proofs.record.form_number.Tie as tie
 
-pub form-place-spec : {M : Type 1} → statement M
-form-place-spec =
+pub form-number-spec : {M : Type 1} → statement M
+form-number-spec =
     tie.close
     (tie.spec
     (λ c. search needs)

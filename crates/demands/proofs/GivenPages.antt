@@ -1,0 +1,96 @@
+-- Loading and storing: 16 and 12 are given when document 01's table says, and only then (specs/GivenPages.antt). Assumes nothing.
+use mathlib.Core.Bool.{true, false, false≢true}
+use mathlib.Core.List.{List, []}
+use mathlib.Core.Logic.{_↔_, _⊎_, inl, inr}
+use mathlib.Core.Path.{_≡_, sym, ap, _∙_}
+use Prim.Native.Nat.{ℕ, _≤_}
+use native.Mathlib.Omega.{arith}
+use borrow.Author.Tests.{le-leb, eq-eqb}
+use lib.ListN.{length}
+use Rattle.octets.specs.Outcomes.{no, puts}
+use Rattle.octets.specs.Refusals.{rulesBroken}
+use Rattle.octets.specs.declared.output.Written.{Written}
+use Rattle.octets.proofs.Cases.{test, choose}
+use Rattle.ledger.specs.Ledgers.{answer, rowsOf, ledgerOf, keepsRules}
+use Rattle.ledger.specs.Pages.{pageOf, storeOf, headKeeps, ledgerIn, loadOf}
+use Rattle.ledger.specs.declared.Answer.{Answer}
+use Rattle.ledger.specs.declared.Ledger.{Ledger}
+use Rattle.ledger.proofs.PageLaws.{head-says}
+use Rattle.demands.specs.Contracts.{Loads, Stores}
+use Rattle.demands.specs.GivenPages.{PageHead, Page, NoPage, StoreFault}
+use Rattle.demands.proofs.GivenOutputs.{no-same, not-puts, output-given, output-written}
+
+-- A page's head, in words.
+pub head-given : (s : List ℕ) → (headKeeps s ≡ true) ↔ PageHead s
+head-given s = (
+  λ h. let w = head-says s h in record { few = w .few; keys = w .keys; readings = w .readings; size = w .size; long = w .long },
+  λ w. rw (le-leb _ _ (w .few), eq-eqb _ _ (w .keys), eq-eqb _ _ (w .readings), eq-eqb _ _ (w .size), eq-eqb _ _ (w .long)),
+)
+
+-- Loading
+
+module _ (s : List ℕ) where
+  -- octets are a page, or not
+  page-or-not : {P : Type 0} → (Page s → P) → (NoPage s → P) → P
+  page-or-not good bad =
+      test (headKeeps s) (λ t. test (keepsRules (ledgerIn s)) (λ u. good (t, u)) (λ f. bad (inr (t, f)))) (λ f. bad (inl f))
+
+  load-page : Page s → loadOf s ≡ answer 0 (ledgerIn s)
+  unfolding loadOf
+  load-page p = rw (p .0, p .1)
+
+  load-none : NoPage s → loadOf s ≡ answer rulesBroken (ledgerOf [])
+  unfolding loadOf
+  load-none (inl f) = rw f
+  load-none (inr w) = rw (w .0, w .1)
+
+  module _ (r : Answer) (h : Loads s r) where
+    -- "16: ledger or page breaks its rules": with a fresh ledger.
+    pub load-given-16 : (r .number ≡ rulesBroken) ↔ NoPage s
+    load-given-16 = (
+      λ e. page-or-not (λ p. absurd (let z : _≡_ {A = ℕ} 16 0 = sym e ∙ ap (λ (a : Answer). a .number) (h ∙ load-page p) in omega arith)) (λ w. w),
+      λ w. ap (λ (a : Answer). a .number) (h ∙ load-none w),
+    )
+
+    pub load-fresh : NoPage s → r ≡ answer rulesBroken (ledgerOf [])
+    load-fresh w = h ∙ load-none w
+
+    -- "0: accepted": a page, and its ledger.
+    pub load-given-0 : (r .number ≡ 0) ↔ Page s
+    load-given-0 = (
+      λ e. page-or-not (λ p. p) (λ w. absurd (let z : _≡_ {A = ℕ} 0 16 = sym e ∙ ap (λ (a : Answer). a .number) (h ∙ load-none w) in omega arith)),
+      λ p. ap (λ (a : Answer). a .number) (h ∙ load-page p),
+    )
+
+    pub load-ledger : Page s → r ≡ answer 0 (ledgerIn s)
+    load-ledger p = h ∙ load-page p
+
+    -- no other number answers a load
+    pub load-numbers : (r .number ≡ 0) ⊎ (r .number ≡ rulesBroken)
+    load-numbers = page-or-not (λ p. inl (load-given-0 .1 p)) (λ w. inr (load-given-16 .1 w))
+
+-- Storing
+
+module _ (l : Ledger) where
+  store-no : (n : ℕ) → (storeOf l ≡ no n) ↔ ((keepsRules l ≡ false) × (n ≡ rulesBroken))
+  unfolding storeOf
+  store-no n =
+      choose (λ x. (x ≡ no n) ↔ ((keepsRules l ≡ false) × (n ≡ rulesBroken))) (keepsRules l)
+      (λ t. (λ e. absurd (not-puts (sym e)), λ w. absurd (false≢true (sym (w .0) ∙ t))))
+      (λ f. (λ e. (f, sym (no-same e)), λ w. ap no (sym (w .1))))
+
+  store-puts : (xs : List ℕ) → (storeOf l ≡ puts xs) ↔ ((keepsRules l ≡ true) × (pageOf (rowsOf l) ≡ xs))
+  unfolding storeOf
+  store-puts xs =
+      choose (λ x. (x ≡ puts xs) ↔ ((keepsRules l ≡ true) × (pageOf (rowsOf l) ≡ xs))) (keepsRules l)
+      (λ t. (λ e. (t, cc), λ w. ap puts (w .1)))
+      (λ f. (λ e. absurd (not-puts e), λ w. absurd (false≢true (sym f ∙ w .0))))
+
+  module _ (o out : List ℕ) (n : ℕ) (r : Written) (h : Stores l o out r) where
+    -- 16, where the ledger breaks the rules; 12, where it keeps them and the output is shorter than the page.
+    pub store-given : (r ≡ Written.Refused n) ↔ StoreFault l o n
+    store-given = output-given (storeOf l) _ _ (pageOf (rowsOf l)) store-no store-puts o n r (h .1)
+
+    -- Else the page goes out, and its length is answered.
+    pub store-written : (r ≡ Written.Octets n) ↔ ((keepsRules l ≡ true) × (length (pageOf (rowsOf l)) ≤ length o) × (n ≡ length (pageOf (rowsOf l))))
+    store-written = output-written (storeOf l) _ _ (pageOf (rowsOf l)) store-no store-puts o n r (h .1)
