@@ -148,7 +148,7 @@ read-stopped s n at o a = go (headerOf s) refl
 module _ (s : List ℕ) (cat len : ℕ) (h : headerOf s ≡ Head.Good cat len) where
   -- a step from where a record was read takes that record, typed, and goes to where it ended
   pub step-read : (at q : ℕ) (r : Rec) → 3 ≤ at → at < len → recordAt s len (category cat) at ≡ got r q
-      → stepOf s at ≡ Step.Taken (typedRec (category cat) r (itemsFrom s len (category cat) at)) (record { at = q })
+      → stepOf s at ≡ Step.Taken (typedRec s len (category cat) r (itemsFrom s len (category cat) at)) (record { at = q })
   unfolding stepOf stepBy takeBy
   step-read at q r a b e = rw (h, le-ltb at 3 a, lt-leb len at b, e)
 
@@ -157,7 +157,7 @@ module _ (s : List ℕ) (cat len : ℕ) (h : headerOf s ≡ Head.Good cat len) w
       → (ts : List Record) × Visited s at ts end × (map (recOf s) ts ≡ rs)
   joined-visited o at end [] l j = ([], j, refl)
   joined-visited o at end (r ∷ rs) l (q, e, a, b, j) =
-      let t = typedRec (category cat) r (itemsFrom s len (category cat) at) in
+      let t = typedRec s len (category cat) r (itemsFrom s len (category cat) at) in
       let (ts, v, m) = joined-visited o q end rs (omega arith) j in
       let means = means-read s len cat at o (header-good s cat len h .known) r q e in
       (t ∷ ts, (q, step-read at q r l (omega arith) e, v), rw (means, m))

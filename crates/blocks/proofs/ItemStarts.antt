@@ -1,24 +1,25 @@
--- Where the items of a record start: each behind those before it, as many octets on as these have. Assumes nothing.
-use mathlib.Core.Path.{_≡_, refl, sym, _∙_}
+-- Where the items of a record start: each where those before it end. Assumes nothing.
+use mathlib.Core.Path.{_≡_, refl, sym, _∙_, subst}
 use mathlib.Core.List.{List, [], _∷_}
 use mathlib.Core.Bool.{Bool, true, false}
-use Prim.Native.Nat.{ℕ, zero, suc, _+_, _-_, _<_, _≤_}
-use native.Mathlib.Nat.{add-zero, add-assoc}
+use Prim.Native.Nat.{ℕ, zero, suc, _<_, _≤_}
 use native.Mathlib.Omega.{arith}
-use lib.Dec.{ltb}
-use lib.ListN.{length, getD, take, length-append}
-use Rattle.octets.specs.Numbers.{number}
+use lib.ListN.{length, getD}
 use Rattle.octets.specs.Choice.{pick}
-use Rattle.octets.proofs.Numbers.{length-octets}
-use Rattle.layouts.specs.Groups.{values}
-use Rattle.layouts.specs.Formats.{got, Format, done, stop, ask, Trace, fitsIn, put}
+use Rattle.layouts.specs.Formats.{Answer, refused, got, Format, done, Trace, fitsIn}
 use Rattle.layouts.specs.Offsets.{runAt, itemAt}
 use Rattle.layouts.specs.Layouts.{format}
+use Rattle.layouts.specs.Ends.{endOf}
 use Rattle.layouts.specs.Tables.{layout}
+use Rattle.layouts.specs.declared.ends.End.the-variants.{At, Refused}
 use Rattle.layouts.specs.declared.form.Form.{Form}
-use Rattle.layouts.proofs.Answers.{got-refused, pick-no, through}
-use Rattle.blocks.specs.Records.{formats, putItems}
+use Rattle.layouts.proofs.Answers.{through}
+use Rattle.layouts.proofs.Alike.{item-alike-at}
+use Rattle.layouts.proofs.Before.{SameBefore, run-before}
+use Rattle.blocks.specs.Records.{formats}
 use Rattle.blocks.specs.Offsets.{itemsAt}
+use Rattle.blocks.specs.Alike.{IfGot, AllAlikeAt}
+use Rattle.blocks.specs.Typed.{stopOf, startIn}
 use Rattle.blocks.proofs.WalkSteps.{item-run}
 
 -- a marked field's format is that of its form, a field's that is not marked has no octets
@@ -41,74 +42,84 @@ formats-few [] fs = omega arith
 formats-few (b ∷ bs) [] = omega arith
 formats-few (b ∷ bs) (f ∷ fs) = omega (arith, formats-few bs fs)
 
--- where item n of those from an offset starts
-abbrev pub startIn : List Format → List Trace → ℕ → ℕ → ℕ
-startIn fs trs at n = at + length (putItems (take n fs) trs [])
-
-start-first : (fs : List Format) (trs : List Trace) (at : ℕ) → startIn fs trs at 0 ≡ at
-unfolding putItems
-start-first fs trs at = add-zero at
-
-start-next : (f : Format) (fs : List Format) (tr : Trace) (trs : List Trace) (at n : ℕ)
-    → startIn (f ∷ fs) (tr ∷ trs) at (suc n) ≡ startIn fs trs (at + length (put f tr [])) n
-unfolding putItems
-start-next f fs tr trs at n = rw length-append (sym (add-assoc at (length (put f tr [])) (length (putItems (take n fs) trs []))))
-
 module _ (s : List ℕ) (len : ℕ) where
-  -- an item has as many octets as are put for its values
-  run-long : (f : Format) (at : ℕ) (tr : Trace) (q : ℕ) → runAt s len f at ≡ got tr q → q ≡ at + length (put f tr [])
-  unfolding runAt put
-  run-long done at tr q h = let e : at ≡ q = cc in rw e (sym (add-zero q))
-  run-long (stop n) at tr q h = absurd (got-refused h)
-  run-long (ask g k) at tr q h =
-      let v = values (g .parts) (number (g .wide) s at) in
-      let (enough, e) = pick-no (ltb (len - at) (g .wide)) _ _ h in
-      let (tr', q', e', last) = through (runAt s len (k v) (at + g .wide)) e in
-      let same : q' ≡ q = cc in
-      let is : v ∷ tr' ≡ tr = cc in
-      rw (← is, length-append, length-octets) (omega (arith, run-long (k v) (at + g .wide) tr' q' e'))
+  none-start : (at n : ℕ) → startIn s len [] at n ≡ at
+  unfolding startIn
+  none-start at zero = refl
+  none-start at (suc n) = refl
 
-  none-there : (at n : ℕ) → itemAt s len done (startIn [] [] at n) ≡ got (getD [] n []) (startIn [] [] at (suc n))
-  unfolding itemAt runAt fitsIn putItems
-  none-there at zero = refl
-  none-there at (suc n) = refl
+  pub first-start : (fs : List Format) (at : ℕ) → startIn s len fs at 0 ≡ at
+  unfolding startIn
+  first-start fs at = refl
 
-  -- item n was read where it starts, to where the next one starts
-  pub items-there : (fs : List Format) (at q : ℕ) (trs : List Trace) → itemsAt s len fs at ≡ got trs q
-      → (n : ℕ) → itemAt s len (getD fs n done) (startIn fs trs at n) ≡ got (getD trs n []) (startIn fs trs at (suc n))
+  -- the next one starts where it ends
+  pub start-next : (fs : List Format) (at n : ℕ)
+      → startIn s len fs at (suc n) ≡ stopOf (startIn s len fs at n) (runAt s len (getD fs n done) (startIn s len fs at n))
+  unfolding startIn runAt
+  start-next [] at n = rw (none-start at n, none-start at (suc n))
+  start-next (f ∷ fs) at zero = refl
+  start-next (f ∷ fs) at (suc n) = start-next fs (stopOf at (runAt s len f at)) n
+
+  -- item n is read where it starts, to where the next one starts
+  abbrev There : List Format → ℕ → List Trace → ℕ → Type 0
+  There fs at trs n = itemAt s len (getD fs n done) (startIn s len fs at n) ≡ got (getD trs n []) (startIn s len fs at (suc n))
+
+  none-there : (at n : ℕ) → There [] at [] n
+  unfolding itemAt runAt fitsIn
+  none-there at n = rw (none-start at n, none-start at (suc n))
+
+  next-there : (f : Format) (fs : List Format) (at : ℕ) (tr : Trace) (p : ℕ) (trs : List Trace) → itemAt s len f at ≡ got tr p
+      → ((n : ℕ) → There fs p trs n) → (n : ℕ) → There (f ∷ fs) at (tr ∷ trs) n
+  unfolding startIn
+  next-there f fs at tr p trs e others zero = e ∙ rw (item-run s len f at p tr e)
+  next-there f fs at tr p trs e others (suc n) = rw (item-run s len f at p tr e) (others n)
+
+  pub items-there : (fs : List Format) (at q : ℕ) (trs : List Trace) → itemsAt s len fs at ≡ got trs q → (n : ℕ) → There fs at trs n
   unfolding itemsAt
   items-there [] at q trs h n = let is : [] ≡ trs = cc in rw (← is) (none-there at n)
   items-there (f ∷ fs) at q trs h n =
       let (tr, p, e, h') = through (itemAt s len f at) h in
       let (trs', q', e', last) = through (itemsAt s len fs p) h' in
       let is : tr ∷ trs' ≡ trs = cc in
-      rw (← is) (go tr p trs' q' (run-long f at tr p (item-run s len f at p tr e)) e e' (items-there fs p q' trs' e') n)
-    where
-      go : (tr : Trace) (p : ℕ) (trs : List Trace) (q : ℕ) → p ≡ at + length (put f tr []) → itemAt s len f at ≡ got tr p → itemsAt s len fs p ≡ got trs q
-          → ((n : ℕ) → itemAt s len (getD fs n done) (startIn fs trs p n) ≡ got (getD trs n []) (startIn fs trs p (suc n)))
-          → (n : ℕ) → itemAt s len (getD (f ∷ fs) n done) (startIn (f ∷ fs) (tr ∷ trs) at n)
-          ≡ got (getD (tr ∷ trs) n []) (startIn (f ∷ fs) (tr ∷ trs) at (suc n))
-      go tr p trs q l e e' ih zero =
-          rw (start-first (f ∷ fs) (tr ∷ trs) at, start-next f fs tr trs at 0, ← l, start-first fs trs p) e
-      go tr p trs q l e e' ih (suc n) =
-          rw (start-next f fs tr trs at n, start-next f fs tr trs at (suc n), ← l) (ih n)
-
-  none-start : (at n : ℕ) → startIn [] [] at n ≡ at
-  unfolding putItems
-  none-start at zero = add-zero at
-  none-start at (suc n) = add-zero at
+      rw (← is) (next-there f fs at tr p trs' e (items-there fs p q' trs' e') n)
 
   -- behind the last item is where they were read to
-  pub items-end : (fs : List Format) (at q : ℕ) (trs : List Trace) → itemsAt s len fs at ≡ got trs q → (n : ℕ) → length fs ≤ n → startIn fs trs at n ≡ q
-  unfolding itemsAt
-  items-end [] at q trs h n l =
-      let is : [] ≡ trs = cc in
-      let same : at ≡ q = cc in
-      rw (← is, ← same) (none-start at n)
+  pub items-end : (fs : List Format) (at q : ℕ) (trs : List Trace) → itemsAt s len fs at ≡ got trs q → (n : ℕ) → length fs ≤ n
+      → startIn s len fs at n ≡ q
+  unfolding itemsAt startIn
+  items-end [] at q trs h n l = none-start at n ∙ cc
   items-end (f ∷ fs) at q trs h zero l = absurd (omega arith)
   items-end (f ∷ fs) at q trs h (suc n) l =
       let (tr, p, e, h') = through (itemAt s len f at) h in
       let (trs', q', e', last) = through (itemsAt s len fs p) h' in
-      let is : tr ∷ trs' ≡ trs = cc in
       let same : q' ≡ q = cc in
-      rw (← is, start-next f fs tr trs' at n, ← run-long f at tr p (item-run s len f at p tr e)) (items-end fs p q' trs' e' n (omega arith) ∙ same)
+      rw (item-run s len f at p tr e) (items-end fs p q' trs' e' n (omega arith) ∙ same)
+
+-- Octets before the block's end that are the same, or that differ only in spare bits, have items at the same starts
+module _ (len : ℕ) (s t : List ℕ) where
+  pub start-before : SameBefore len s t → (fs : List Format) (at n : ℕ) → startIn s len fs at n ≡ startIn t len fs at n
+  unfolding startIn
+  start-before same fs at zero = refl
+  start-before same [] at (suc n) = refl
+  start-before same (f ∷ fs) at (suc n) = rw (run-before len s t same f at, start-before same fs (stopOf at (runAt t len f at)) n)
+
+  pub start-alike : (fs : List Format) (at q : ℕ) (trs : List Trace) → AllAlikeAt s t len fs at → itemsAt s len fs at ≡ got trs q
+      → (n : ℕ) → startIn s len fs at n ≡ startIn t len fs at n
+  unfolding itemsAt startIn
+  start-alike fs at q trs a h zero = refl
+  start-alike [] at q trs a h (suc n) = refl
+  start-alike (f ∷ fs) at q trs a h (suc n) =
+      let (tr, p, e, h') = through (itemAt s len f at) h in
+      let (trs', q', e', last) = through (itemsAt s len fs p) h' in
+      let there : itemAt t len f at ≡ got tr p = sym (item-alike-at s t len f at (a .0)) ∙ e in
+      let rest : AllAlikeAt s t len fs p = subst (λ (m : Answer ℕ Trace). IfGot m (λ tr q. AllAlikeAt s t len fs q)) e (a .1) in
+      rw (item-run s len f at p tr e, item-run t len f at p tr there) (start-alike fs p q' trs' rest e' n)
+
+-- where an item stops, by its end
+pub stop-at : {A : Type 0} (at q : ℕ) (m : Answer ℕ A) → endOf m ≡ At q → q ≡ stopOf at m
+stop-at at q (refused n) h = let z : _≡_ {A = ℕ} 0 1 = cc in absurd (omega arith)
+stop-at at q (got a p) h = cc
+
+pub stop-refused : {A : Type 0} (at n : ℕ) (m : Answer ℕ A) → endOf m ≡ Refused n → at ≡ stopOf at m
+stop-refused at n (refused m) h = refl
+stop-refused at n (got a p) h = let z : _≡_ {A = ℕ} 0 1 = cc in absurd (omega arith)

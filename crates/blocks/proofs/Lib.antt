@@ -15,6 +15,7 @@ pub mod Faults
 pub mod RecordFaults
 pub mod ListedLaws
 pub mod ItemStarts
+pub mod FormLaws
 pub mod TypedLaws
 pub mod StepLaws
 pub mod MeaningLaws
@@ -24,5 +25,6 @@ pub mod StepFaults
 pub mod SameAnswers
 pub mod AtEnd
 pub mod RecordStarts
+pub mod TypedOctets
 pub mod TakenLaws
 pub mod SeenLaws

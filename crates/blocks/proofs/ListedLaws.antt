@@ -16,7 +16,7 @@ use Rattle.blocks.specs.Records.{Rec}
 use Rattle.blocks.specs.Blocks.{Block, wrong, all, blockFrom, blockOf}
 use Rattle.blocks.specs.Offsets.{recordAt}
 use Rattle.blocks.specs.Walks.{answerOf, readFrom, readOf, listedReading, blockListed, readListed}
-use Rattle.blocks.specs.Steps.{itemsFrom, takenBy, takeBy, stepFrom, stepBy, entryFrom, entryBy, entryGroupOf, entryValues, stepOf, listedStep, stepListed, foundOf, entryOf, entryRefused, entryFound, listedEntry, entryListed}
+use Rattle.blocks.specs.Steps.{takenBy, takeBy, stepFrom, stepBy, entryFrom, entryBy, entryGroupOf, entryValues, stepOf, listedStep, stepListed, foundOf, entryOf, entryRefused, entryFound, listedEntry, entryListed}
 use Rattle.blocks.specs.declared.header.Head.{Head}
 use Rattle.blocks.specs.declared.header.Head.the-variants as head
 use Rattle.blocks.specs.declared.record.Record.{Record}
@@ -44,14 +44,13 @@ read-listed s = rw (read-block s) (listed-block (number 2 s 1) (blockOf s))
 -- what is made of a step's answer is made of its refusal or of its typed record
 module _ {A B : Type 0} (f : A → B) {no : ℕ → ℕ → A} {yes : Record → ℕ → A} {no' : ℕ → ℕ → B} {yes' : Record → ℕ → B}
     (of-no : (n at : ℕ) → f (no n at) ≡ no' n at) (of-yes : (t : Record) (q : ℕ) → f (yes t q) ≡ yes' t q) where
-  taken-made : (c : Category) (at p : ℕ) (m : Answer ℕ Rec) → f (takenBy no yes c at p m) ≡ takenBy no' yes' c at p m
-  taken-made c at p (refused n) = of-no n at
-  taken-made c at p (got r q) = of-yes _ q
+  taken-made : (s : List ℕ) (len : ℕ) (c : Category) (at : ℕ) (m : Answer ℕ Rec) → f (takenBy no yes s len c at m) ≡ takenBy no' yes' s len c at m
+  taken-made s len c at (refused n) = of-no n at
+  taken-made s len c at (got r q) = of-yes _ q
 
   take-made : (s : List ℕ) (len number at : ℕ) → f (takeBy no yes s len number at) ≡ takeBy no' yes' s len number at
   unfolding takeBy
-  take-made s len number at =
-      taken-made (category number) at (itemsFrom s len (category number) at) (recordAt s len (category number) at)
+  take-made s len number at = taken-made s len (category number) at (recordAt s len (category number) at)
 
   from-made : (s : List ℕ) (start : ℕ) (h : Head) → f (stepFrom no yes s start h) ≡ stepFrom no' yes' s start h
   from-made s start (head.Refused n) = of-no n 0

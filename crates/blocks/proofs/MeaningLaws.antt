@@ -1,16 +1,16 @@
 -- A typed record that was made of a record read means that record. Assumes nothing.
 use mathlib.Core.Path.{_≡_, refl, sym, ap, _∙_, subst}
-use mathlib.Core.Bool.{Bool, true, false, _&&_, false≢true}
+use mathlib.Core.Bool.{Bool, true, false, false≢true}
 use mathlib.Core.List.{List, [], _∷_, _++_}
 use Prim.Native.Nat.{ℕ, zero, suc, _+_, _-_, _*_, _/_, _%_, _≤_, _<_}
-use native.Mathlib.Nat.{zero-add, sub-zero, add-zero}
+use native.Mathlib.Nat.{sub-zero}
 use native.Mathlib.Omega.{arith}
 use borrow.Author.Tests.{eqb-true}
 use lib.Dec.{leb, ltb, eqb}
 use lib.ListN.{length, getD, replicate}
 use Rattle.octets.specs.Choice.{pick, odd}
 use Rattle.octets.specs.Numbers.{Octets, number}
-use Rattle.octets.proofs.Cases.{choose, both}
+use Rattle.octets.proofs.Cases.{choose}
 use Rattle.layouts.specs.Groups.{values, Group}
 use Rattle.layouts.specs.Formats.{Answer, refused, got, andThen, Format, done, ask, Trace, fitsIn}
 use Rattle.layouts.specs.Offsets.{runAt, itemAt}
@@ -27,13 +27,14 @@ use Rattle.blocks.specs.Specification.{flags}
 use Rattle.blocks.specs.Marks.{marksOf, flagsOf}
 use Rattle.blocks.specs.Records.{Rec, formats, layoutOf}
 use Rattle.blocks.specs.Offsets.{specsAt, itemsAt, recordAt}
-use Rattle.blocks.specs.Typed.{typed, fieldFor, placeIn, valuesFor, startFor, typedRec}
+use Rattle.blocks.specs.Typed.{typed, fieldFor, placeIn, startIn, valuesFor, startFor, typedRec}
 use Rattle.blocks.specs.Steps.{itemsFrom}
 use Rattle.blocks.specs.Meaning.{itemIn, sevens, valuesOf, recOf}
 use Rattle.blocks.specs.declared.record.Record.{Record}
 use Rattle.blocks.proofs.MarksLaws.{flags-long, flags-32, marks-one, marks-cons, specs-marked}
-use Rattle.blocks.proofs.WalkSteps.{by-known, Table, table, item-run}
-use Rattle.blocks.proofs.ItemStarts.{startIn, formats-at, items-there}
+use Rattle.blocks.proofs.WalkSteps.{Table, table, item-run}
+use Rattle.blocks.proofs.FormLaws.{owned, Forms, forms, field-owned}
+use Rattle.blocks.proofs.ItemStarts.{formats-at, items-there}
 use Rattle.blocks.proofs.ReadSteps.{record-parts}
 
 -- The marks
@@ -229,37 +230,6 @@ module _ (number marks : ℕ) (values : Form → Trace) (start : Form → ℕ) w
   made-item form.Expansion own = ap Item.Expansion (place-of 1 Form.Expansion)
   made-item form.Purpose own = ap Item.Purpose (place-of 1 Form.Purpose)
 
--- a form is spare, or field k + 1 is its field
-abbrev owned : List Form → Form → ℕ → Bool
-owned fs f k = pick (isUnused (layout f)) true (eqb (fieldFor fs f) (suc k))
-
--- and so from k on
-abbrev owns : List Form → List Form → ℕ → Bool
-owns fs [] k = true
-owns fs (g ∷ gs) k = owned fs g k && owns fs gs (suc k)
-
-owns-at : (fs gs : List Form) (k n : ℕ) → owns fs gs k ≡ true → n < length gs
-    → owned fs (getD gs n Form.Spare) (k + n) ≡ true
-owns-at fs [] k n h l = absurd (omega arith)
-owns-at fs (g ∷ gs) k zero h l = rw add-zero (both (owned fs g k) (owns fs gs (suc k)) h .0)
-owns-at fs (g ∷ gs) k (suc n) h l =
-    let e : suc k + n ≡ k + suc n = omega arith in
-    rw (← e) (owns-at fs gs (suc k) n (both (owned fs g k) (owns fs gs (suc k)) h .1) (omega arith))
-
--- what a typed record needs of a category: no form at two fields, and entries of one kind
-pub record Forms (c : Category) : Type 0 where
-  pub same : category (c .number) ≡ c
-  own : owns (c .fields) (c .fields) 0 ≡ true
-  statistics : (i : ℕ) → fieldFor (c .fields) Form.Statistics ≡ suc i → eqb (c .number) 242 ≡ false
-  versions : (i : ℕ) → fieldFor (c .fields) Form.Versions ≡ suc i → eqb (c .number) 242 ≡ true
-
-pub forms : (n : ℕ) → known n ≡ true → Forms (category n)
-forms =
-    by-known (λ (n : ℕ). Forms (category n))
-    (record { same = refl; own = refl; statistics = λ i h. refl; versions = λ i h. absurd (omega arith) })
-    (record { same = refl; own = refl; statistics = λ i h. refl; versions = λ i h. absurd (omega arith) })
-    (record { same = refl; own = refl; statistics = λ i h. absurd (omega arith); versions = λ i h. refl })
-
 one-less : (i : ℕ) → suc i - 1 ≡ i
 one-less i = omega arith
 
@@ -268,11 +238,11 @@ module _ (s : List ℕ) (len : ℕ) (c : Category) (w : Forms c) (gs : List ℕ)
   r = record { marks = gs; items = trs }
 
   abbrev t : Record
-  t = typedRec c r p
+  t = typedRec s len c r p
 
   -- where the item of field i + 1 starts
   abbrev start : ℕ → ℕ
-  start i = startIn (layoutOf c gs) trs p i
+  start i = startIn s len (layoutOf c gs) p i
 
   -- a form that has a field is not the one of entries that the category does not have
   not-other : (f : Form) (i : ℕ) → fieldFor (c .fields) f ≡ suc i → f ≡ pick (eqb (c .number) 242) Form.Statistics Form.Versions → ⊥
@@ -290,7 +260,7 @@ module _ (s : List ℕ) (len : ℕ) (c : Category) (w : Forms c) (gs : List ℕ)
   unfolding typedRec
   item-typed f i q e u h =
       let (v, tr, is) = trace-some s len (layout f) (start i) q (getD trs i []) u h in
-      made-item (c .number) (marksOf (flags gs)) (valuesFor c r p) (startFor c r p) f (not-other f i e) ∙ rw (e, one-less i, is)
+      made-item (c .number) (marksOf (flags gs)) (valuesFor c r) (startFor s len c r p) f (not-other f i e) ∙ rw (e, one-less i, is)
 
   -- so it is the item that was read at the field
   field-item : (f : Form) (i q : ℕ) → owned (c .fields) f i ≡ true
@@ -320,7 +290,7 @@ module _ (s : List ℕ) (len : ℕ) (c : Category) (w : Forms c) (gs : List ℕ)
     f = getD (c .fields) n Form.Spare
 
     own : owned (c .fields) f n ≡ true
-    own = rw zero-add at (owns-at (c .fields) (c .fields) 0 n (w .own) l)
+    own = field-owned c w n l
 
     there : itemAt s len (pick (getD (flags gs) n false) (format (layout f)) done) (start n) ≡ got (getD trs n []) (start (suc n))
     unfolding layoutOf
@@ -351,7 +321,7 @@ rec-of s t c gs trs hc hs hv = rw (hc, hs, hv)
 module _ (s : List ℕ) (len n : ℕ) (c : Category) (w : Forms c) (t : Table n c) where
   rec-means : (gs : List ℕ) (trs : List Trace) (p q : ℕ) → Sevens gs → length gs ≡ c .most
       → itemsAt s len (layoutOf c gs) p ≡ got trs q
-      → recOf s (typedRec c (record { marks = gs; items = trs }) p) ≡ record { marks = gs; items = trs }
+      → recOf s (typedRec s len c (record { marks = gs; items = trs }) p) ≡ record { marks = gs; items = trs }
   unfolding typedRec
   rec-means gs trs p q low long h =
       let fields : length (c .fields) ≤ length (flags gs) = omega (arith, flags-long gs, t .long) in
@@ -359,7 +329,7 @@ module _ (s : List ℕ) (len n : ℕ) (c : Category) (w : Forms c) (t : Table n 
       (rw (flags-32 gs (omega (arith, t .few)), values-more s _ (flags gs) (32 - 7 * length gs) (c .fields) fields)
       (values-mean s len c w gs trs p q h))
 
-  means-at : Octets s → (at q : ℕ) (r : Rec) → recordAt s len c at ≡ got r q → recOf s (typedRec c r (itemsFrom s len c at)) ≡ r
+  means-at : Octets s → (at q : ℕ) (r : Rec) → recordAt s len c at ≡ got r q → recOf s (typedRec s len c r (itemsFrom s len c at)) ≡ r
   means-at o at q r h =
       let (p, e, e', z, y) = record-parts s len c at q r h in
       let low : Sevens (r .marks) = subst (OfGot (λ gs q. Sevens gs)) e (specs-sevens s len o (c .most - 1) at) in
@@ -369,5 +339,5 @@ module _ (s : List ℕ) (len n : ℕ) (c : Category) (w : Forms c) (t : Table n 
 module _ (s : List ℕ) (len number at : ℕ) (o : Octets s) (k : known number ≡ true) where
   -- A typed record that was made of a record read means that record.
   pub means-read : (r : Rec) (q : ℕ) → recordAt s len (category number) at ≡ got r q
-      → recOf s (typedRec (category number) r (itemsFrom s len (category number) at)) ≡ r
+      → recOf s (typedRec s len (category number) r (itemsFrom s len (category number) at)) ≡ r
   means-read r q h = means-at s len number (category number) (forms number k) (table number k) o at q r h

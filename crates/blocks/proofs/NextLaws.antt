@@ -1,13 +1,15 @@
 -- The first marked field from a field on. Assumes nothing.
-use mathlib.Core.Path.{_≡_, sym, _∙_}
+use mathlib.Core.Path.{_≡_, refl, sym, _∙_}
 use mathlib.Core.Bool.{Bool, true, false}
 use mathlib.Core.List.{List, [], _∷_}
 use Prim.Native.Nat.{ℕ, zero, suc, _+_, _-_, _/_, _%_, _^_, _≤_, _<_}
 use native.Mathlib.Nat.{div-one, div-div-eq-div-mul, pow-succ', sub-zero, sub-self}
 use native.Mathlib.Numerals.{add-one}
 use native.Mathlib.Omega.{arith}
-use borrow.Author.Tests.{eq-eqb, ne-eqb}
+use borrow.Author.Tests.{eq-eqb, ne-eqb, eqb-true, eqb-false}
+use lib.Dec.{eqb}
 use lib.ListN.{length, getD, drop}
+use Rattle.octets.proofs.Cases.{test}
 use Rattle.blocks.specs.Marks.{flagsOf, nextMarked}
 
 -- the marks from a field on are those of the number shifted
@@ -35,6 +37,19 @@ next-marked (false ∷ bs) f h =
     let low = next-within bs (suc f) .0 in
     let e : nextMarked bs (suc f) - f ≡ suc (nextMarked bs (suc f) - suc f) = omega arith in
     rw e (next-marked bs (suc f) (omega arith))
+
+-- and no field before it is
+pub next-unmarked : (bs : List Bool) (f k : ℕ) → f ≤ k → k < nextMarked bs f → getD bs (k - f) false ≡ false
+unfolding nextMarked
+next-unmarked [] f k l m = refl
+next-unmarked (true ∷ bs) f k l m = absurd (omega arith)
+next-unmarked (false ∷ bs) f k l m =
+    test (eqb k f)
+    (λ t. rw (eqb-true k f t, sub-self))
+    (λ t.
+    let n = eqb-false k f t in
+    let e : k - f ≡ suc (k - suc f) = omega arith in
+    rw e (next-unmarked bs (suc f) k (omega arith) m))
 
 -- none is marked
 next-none : (n f : ℕ) → nextMarked (flagsOf n 0) f ≡ f + n

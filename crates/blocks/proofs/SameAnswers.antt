@@ -1,5 +1,5 @@
 -- Octets after LEN change no answer, and neither do spare bits: of reading, of a step, of an entry, refusals too. Assumes nothing.
-use mathlib.Core.Path.{_≡_, refl, sym, ap, _∙_}
+use mathlib.Core.Path.{_≡_, refl, sym, ap, _∙_, subst}
 use mathlib.Core.Bool.{Bool, true, false}
 use mathlib.Core.List.{List}
 use Prim.Native.Nat.{ℕ, zero, suc, _-_, _<_, _≤_}
@@ -12,12 +12,13 @@ use Rattle.layouts.specs.Formats.{Answer, refused, got}
 use Rattle.layouts.specs.Categories.{Category, category}
 use Rattle.layouts.proofs.Before.{SameBefore}
 use Rattle.blocks.specs.Headers.{headerOf}
-use Rattle.blocks.specs.Records.{Rec}
+use Rattle.blocks.specs.Records.{Rec, layoutOf}
 use Rattle.blocks.specs.Blocks.{with, blockOf}
 use Rattle.blocks.specs.Offsets.{recordAt, firstAt, recordsAt}
 use Rattle.blocks.specs.Walks.{answerOf, readFrom, readOf}
-use Rattle.blocks.specs.Steps.{itemsFrom, stopOf, takeBy, stepFrom, stepBy, stepOf, entryValues, entryGroupOf, entryFrom, foundOf, entryBy, entryOf}
-use Rattle.blocks.specs.Alike.{IfGot, RecordAlikeAt, RecordsAlikeAt}
+use Rattle.blocks.specs.Typed.{startIn, typedRec}
+use Rattle.blocks.specs.Steps.{itemsFrom, takenBy, takeBy, stepFrom, stepBy, stepOf, entryValues, entryGroupOf, entryFrom, foundOf, entryBy, entryOf}
+use Rattle.blocks.specs.Alike.{IfGot, AllAlikeAt, RecordAlikeAt, RecordsAlikeAt}
 use Rattle.blocks.specs.declared.header.Head.{Head}
 use Rattle.blocks.specs.declared.header.Head.the-variants as head
 use Rattle.blocks.specs.declared.record.Record.{Record}
@@ -27,6 +28,8 @@ use Rattle.blocks.specs.declared.cursor.Found.{Found}
 use Rattle.blocks.proofs.HeaderLaws.{header-good}
 use Rattle.blocks.proofs.BeforeLaws.{specs-before, record-before, records-before}
 use Rattle.blocks.proofs.AlikeLaws.{record-alike-at}
+use Rattle.blocks.proofs.ReadSteps.{record-parts}
+use Rattle.blocks.proofs.ItemStarts.{start-before, start-alike}
 use Rattle.blocks.proofs.BoundaryLaws.{block-good}
 use Rattle.blocks.proofs.TypedLaws.{entry-values}
 use Rattle.blocks.proofs.StepLaws.{Took, step-took, ofStep, by-step}
@@ -37,7 +40,16 @@ module _ (s t : List ℕ) (start : ℕ) where
   pub record SameRecord : Type 0 where
     pub head : headerOf s ≡ headerOf t
     pub is : (cat len : ℕ) → headerOf s ≡ Head.Good cat len → recordAt s len (category cat) start ≡ recordAt t len (category cat) start
-    pub from : (cat len : ℕ) → headerOf s ≡ Head.Good cat len → itemsFrom s len (category cat) start ≡ itemsFrom t len (category cat) start
+    pub typed : (cat len : ℕ) → headerOf s ≡ Head.Good cat len → (r : Rec) (q : ℕ) → recordAt s len (category cat) start ≡ got r q
+        → typedRec s len (category cat) r (itemsFrom s len (category cat) start) ≡ typedRec t len (category cat) r (itemsFrom t len (category cat) start)
+
+  -- a record of a block
+  same-taken : (len : ℕ) (c : Category) (a : Answer ℕ Rec)
+      → ((r : Rec) (q : ℕ) → a ≡ got r q → typedRec s len c r (itemsFrom s len c start) ≡ typedRec t len c r (itemsFrom t len c start))
+      → takenBy Step.Refused (λ r q. Step.Taken r (record { at = q })) s len c start a
+      ≡ takenBy Step.Refused (λ r q. Step.Taken r (record { at = q })) t len c start a
+  same-taken len c (refused n) h = refl
+  same-taken len c (got r q) h = rw (h r q refl)
 
   module _ (same : SameRecord) where
     pub same-step : stepOf s start ≡ stepOf t start
@@ -48,7 +60,8 @@ module _ (s t : List ℕ) (start : ℕ) where
             → stepFrom Step.Refused (λ r q. Step.Taken r (record { at = q })) s start h
             ≡ stepFrom Step.Refused (λ r q. Step.Taken r (record { at = q })) t start h
         go (head.Refused n) e = refl
-        go (head.Good cat len) e = rw (same .is cat len e, same .from cat len e)
+        go (head.Good cat len) e =
+            rw (← same .is cat len e, same-taken len (category cat) (recordAt s len (category cat) start) (same .typed cat len e))
 
     module _ (o : Octets s) (o' : Octets t) (k : ℕ) where
       -- an entry is what the record's values have
@@ -59,7 +72,8 @@ module _ (s t : List ℕ) (start : ℕ) where
           let g' = header-good t (w .cat) (w .len) (sym (same .head) ∙ w .head) in
           let a = entry-values s (w .len) (w .cat) start o (g .fits) (g .known) (w .taking .r) q (w .taking .is) x (w .taking .same) k l in
           let b = entry-values t (w .len) (w .cat) start o' (g' .fits) (g' .known) (w .taking .r) q
-          (sym (same .is (w .cat) (w .len) (w .head)) ∙ w .taking .is) x (rw (← same .from (w .cat) (w .len) (w .head)) (w .taking .same)) k l in
+          (sym (same .is (w .cat) (w .len) (w .head)) ∙ w .taking .is)
+          x (w .taking .same ∙ same .typed (w .cat) (w .len) (w .head) (w .taking .r) q (w .taking .is)) k l in
           a ∙ sym b
 
       abbrev found : List ℕ → Record → Found
@@ -83,6 +97,12 @@ module _ (s t : List ℕ) (start : ℕ) where
           go : (r : Step) → stepOf s start ≡ r → ofStep Found.Refused (λ x q. found s x) r ≡ ofStep Found.Refused (λ x q. found t x) r
           go (step.Refused n at) e = refl
           go (step.Taken x c) e = found-same x (c .at) (step-took s start x c e)
+
+-- a typed record of the same values, whose items start at the same offsets
+same-typed : (s t : List ℕ) (len : ℕ) (c : Category) (r : Rec) (p : ℕ)
+    → ((n : ℕ) → startIn s len (layoutOf c (r .marks)) p n ≡ startIn t len (layoutOf c (r .marks)) p n) → typedRec s len c r p ≡ typedRec t len c r p
+unfolding typedRec
+same-typed s t len c r p h = simp h
 
 -- Both have a header and LEN octets, and the header is the same
 module _ (s t : List ℕ) (first : (i : ℕ) → i < 3 → getD s i 0 ≡ getD t i 0)
@@ -141,7 +161,9 @@ module _ (s t : List ℕ) (first : (i : ℕ) → i < 3 → getD s i 0 ≡ getD t
     after-len start = record {
       head = same-header;
       is = λ cat len e. record-before len s t (before-len cat len e) (category cat) start;
-      from = λ cat len e. ap (stopOf start) (specs-before len s t (before-len cat len e) (category cat .most - 1) start);
+      typed = λ cat len e r q h.
+          rw (specs-before len s t (before-len cat len e) (category cat .most - 1) start)
+          (same-typed s t len (category cat) r _ (start-before len s t (before-len cat len e) (layoutOf (category cat) (r .marks)) _));
     }
 
     pub step-after-len : (start : ℕ) → stepOf s start ≡ stepOf t start
@@ -174,7 +196,12 @@ module _ (s t : List ℕ) (first : (i : ℕ) → i < 3 → getD s i 0 ≡ getD t
     alike = record {
       head = same-header;
       is = λ cat len e. record-alike-at s t len (category cat) start (h cat len e);
-      from = λ cat len e. ap (stopOf start) (h cat len e .0);
+      typed = λ cat len e r q is.
+          let c = category cat in
+          let (p, spec, items, z, y) = record-parts s len c start q r is in
+          let rest : AllAlikeAt s t len (layoutOf c (r .marks)) p
+          = subst (λ (m : Answer ℕ (List ℕ)). IfGot m (λ gs p. AllAlikeAt s t len (layoutOf c gs) p)) spec (h cat len e .1) in
+          rw (← h cat len e .0, spec) (same-typed s t len c r p (start-alike len s t (layoutOf c (r .marks)) p q (r .items) rest items));
     }
 
     pub step-alike : stepOf s start ≡ stepOf t start

@@ -9,22 +9,18 @@ use lib.Dec.{leb, ltb}
 use lib.ListN.{length}
 use Rattle.octets.specs.Choice.{pick}
 use Rattle.octets.specs.Numbers.{Octets, number}
-use Rattle.octets.specs.Refusals.{noSuch, longSpecification}
+use Rattle.octets.specs.Refusals.{noSuch}
 use Rattle.layouts.specs.Groups.{values}
 use Rattle.layouts.specs.Formats.{Answer, refused, got}
-use Rattle.layouts.specs.Ends.{chainEnd}
 use Rattle.layouts.specs.Tables.{counter, version}
-use Rattle.layouts.specs.Categories.{category, known}
-use Rattle.layouts.specs.declared.ends.End.{End}
+use Rattle.layouts.specs.Categories.{category}
 use Rattle.items.specs.Typed.{counterOf, versionOf}
-use Rattle.blocks.specs.Specification.{flags}
-use Rattle.blocks.specs.Marks.{marksOf, groupsOf}
 use Rattle.blocks.specs.Headers.{headerOf}
 use Rattle.blocks.specs.Records.{Rec}
-use Rattle.blocks.specs.Offsets.{specsAt, recordAt}
+use Rattle.blocks.specs.Offsets.{recordAt}
 use Rattle.blocks.specs.Walks.{onward, runOf}
-use Rattle.blocks.specs.Typed.{typedRec, typedOf}
-use Rattle.blocks.specs.Steps.{typedBehind, itemsFrom, takenBy, takeBy, stepFrom, stepBy, takeOf, stepOf, entryGroupOf, entryFrom, entryBy, foundOf, entryIn, entryOf}
+use Rattle.blocks.specs.Typed.{typedRec}
+use Rattle.blocks.specs.Steps.{itemsFrom, takenBy, takeBy, stepFrom, stepBy, takeOf, stepOf, entryGroupOf, entryFrom, entryBy, foundOf, entryIn, entryOf}
 use Rattle.blocks.specs.declared.header.Head.{Head}
 use Rattle.blocks.specs.declared.header.Head.the-variants as head
 use Rattle.blocks.specs.declared.record.Record.{Record}
@@ -34,22 +30,9 @@ use Rattle.blocks.specs.declared.cursor.Step.{Step}
 use Rattle.blocks.specs.declared.cursor.Step.the-variants as step
 use Rattle.blocks.specs.declared.cursor.Found.{Found}
 use Rattle.blocks.proofs.HeaderLaws.{header-good}
-use Rattle.blocks.proofs.WalkSteps.{table, Spec, spec-ended, run-one, run-none}
+use Rattle.blocks.proofs.WalkSteps.{run-one, run-none}
 use Rattle.blocks.proofs.ListedLaws.{step-made}
-use Rattle.blocks.proofs.TypedLaws.{typed-good, entries-within}
-
--- The typed record behind a specification
-module _ (s : List ℕ) (len number at : ℕ) (k : known number ≡ true) (m : ℕ) (most : m ≡ category number .most) where
-  abbrev specification : Answer ℕ (List ℕ)
-  specification = specsAt s len (category number .most - 1) at
-
-  pub behind-refused : (w : ℕ) → End.Refused w ≡ chainEnd s len longSpecification 1 (m - 1) at
-      → (r : Record) → r ≡ typedOf s len number 0 at → r ≡ typedBehind s len number at specification
-  behind-refused w h r e = e ∙ rw (spec-ended s len (category number) at number (table number k) m most (End.Refused w) h)
-
-  pub behind-marked : (p : ℕ) → Spec s len (category number) at p → (marks : ℕ) → marks ≡ marksOf (flags (groupsOf (p - at) s at))
-      → (r : Record) → r ≡ typedOf s len number marks p → r ≡ typedBehind s len number at specification
-  behind-marked p sp marks is r e = e ∙ rw (sp .is, is, ← sp .marked .same)
+use Rattle.blocks.proofs.TypedLaws.{entries-within}
 
 -- A record of a block
 walked-on : {q c n at : ℕ} → Walked.To q c ≡ Walked.Refused n at → ⊥
@@ -68,24 +51,23 @@ module _ (s : List ℕ) (len number at : ℕ) (more : at < len) where
   take-refused n start e = go (recordAt s len (category number) at) (is-one _ e)
     where
       go : (a : Answer ℕ Rec) → Walked.Refused n start ≡ one a
-          → Step.Refused n start ≡ takenBy Step.Refused (λ t q. Step.Taken t (record { at = q })) (category number) at (itemsFrom s len (category number) at) a
+          → Step.Refused n start ≡ takenBy Step.Refused (λ t q. Step.Taken t (record { at = q })) s len (category number) at a
       go (refused m) h = let a : n ≡ m = cc in let b : start ≡ at = cc in rw (a, b)
       go (got r q) h = absurd (walked-on (run-none s len (category number) q 0 1 refl ∙ sym h))
 
-  module _ (o : Octets s) (fit : len ≤ length s) (k : known number ≡ true) where
-    pub take-taken : (q c : ℕ) → Walked.To q c ≡ runOf s len (category number) 1 at 0
-        → (t : Record) → t ≡ typedBehind s len number at (specsAt s len (category number .most - 1) at)
-        → Step.Taken t (record { at = q }) ≡ takeOf s len number at
-    unfolding takeOf takeBy
-    take-taken q c e t h = go (recordAt s len (category number) at) refl (is-one _ e)
-      where
-        go : (a : Answer ℕ Rec) → recordAt s len (category number) at ≡ a → Walked.To q c ≡ one a
-            → Step.Taken t (record { at = q }) ≡ takenBy Step.Refused (λ t q. Step.Taken t (record { at = q })) (category number) at (itemsFrom s len (category number) at) a
-        go (refused m) f g = absurd (walked-on g)
-        go (got r p) f g =
-            let same : Walked.To q c ≡ Walked.To p 1 = g ∙ sym (run-none s len (category number) p 0 1 refl) in
-            let a : q ≡ p = cc in
-            rw (a, h, typed-good s len number at o fit k r p f)
+  pub take-taken : (q c : ℕ) → Walked.To q c ≡ runOf s len (category number) 1 at 0
+      → (t : Record) → ((r : Rec) (p : ℕ) → recordAt s len (category number) at ≡ got r p → t ≡ typedRec s len (category number) r (itemsFrom s len (category number) at))
+      → Step.Taken t (record { at = q }) ≡ takeOf s len number at
+  unfolding takeOf takeBy
+  take-taken q c e t h = go (recordAt s len (category number) at) refl (is-one _ e)
+    where
+      go : (a : Answer ℕ Rec) → recordAt s len (category number) at ≡ a → Walked.To q c ≡ one a
+          → Step.Taken t (record { at = q }) ≡ takenBy Step.Refused (λ t q. Step.Taken t (record { at = q })) s len (category number) at a
+      go (refused m) f g = absurd (walked-on g)
+      go (got r p) f g =
+          let same : Walked.To q c ≡ Walked.To p 1 = g ∙ sym (run-none s len (category number) p 0 1 refl) in
+          let a : q ≡ p = cc in
+          rw (a, h r p f)
 
 -- A step
 module _ (s : List ℕ) (start : ℕ) where
@@ -115,10 +97,10 @@ module _ (s : List ℕ) (len number at : ℕ) where
   pub record Taking (t : Record) (next : ℕ) : Type 0 where
     pub r : Rec
     pub is : recordAt s len (category number) at ≡ got r next
-    pub same : t ≡ typedRec (category number) r (itemsFrom s len (category number) at)
+    pub same : t ≡ typedRec s len (category number) r (itemsFrom s len (category number) at)
 
   abbrev by : Answer ℕ Rec → Step
-  by = takenBy Step.Refused (λ t q. Step.Taken t (record { at = q })) (category number) at (itemsFrom s len (category number) at)
+  by = takenBy Step.Refused (λ t q. Step.Taken t (record { at = q })) s len (category number) at
 
   pub take-took : (t : Record) (c : Cursor) → takeOf s len number at ≡ Step.Taken t c → Taking t (c .at)
   unfolding takeOf takeBy

@@ -1,24 +1,25 @@
 -- What every record has that a step hands out, four bits of SID and of STYP; and the steps of an accepted block.
 -- Assumes nothing.
-use mathlib.Core.Path.{_≡_, refl, sym, ap, _∙_, subst}
+use mathlib.Core.Path.{_≡_, refl, sym, ap, _∙_}
 use mathlib.Core.Bool.{true}
 use mathlib.Core.List.{List}
-use Prim.Native.Nat.{ℕ, _-_, _<_, _≤_}
+use Prim.Native.Nat.{ℕ, _<_, _≤_}
 use native.Mathlib.Nat.{mod-lt}
 use native.Mathlib.Omega.{arith}
 use lib.ListN.{length, getD}
 use Rattle.octets.specs.Numbers.{Octets}
 use Rattle.octets.specs.Refusals.{noSuch}
 use Rattle.layouts.specs.Groups.{values}
-use Rattle.layouts.specs.Formats.{Answer, refused, got}
 use Rattle.layouts.specs.Offsets.{traceAt}
 use Rattle.layouts.specs.Layouts.{format}
+use Rattle.layouts.specs.Tables.{layout}
 use Rattle.layouts.specs.Categories.{category, known}
+use Rattle.layouts.specs.declared.form.Form.{Form}
+use Rattle.items.specs.Typed.{serviceOf}
 use Rattle.items.specs.declared.typed.Service.{Service}
 use Rattle.blocks.specs.Headers.{headerOf}
-use Rattle.blocks.specs.Offsets.{specsAt}
-use Rattle.blocks.specs.Typed.{typedOf}
-use Rattle.blocks.specs.Steps.{typedBehind, takeOf, stepOf}
+use Rattle.blocks.specs.Typed.{typedRec}
+use Rattle.blocks.specs.Steps.{takeOf, stepOf}
 use Rattle.blocks.specs.Walks.{readOf}
 use Rattle.blocks.specs.declared.header.Head.{Head}
 use Rattle.blocks.specs.declared.record.Record.{Record}
@@ -26,7 +27,7 @@ use Rattle.blocks.specs.declared.cursor.Cursor.{Cursor}
 use Rattle.blocks.specs.declared.cursor.Step.{Step}
 use Rattle.blocks.specs.declared.walk.Reading.{Reading}
 use Rattle.blocks.proofs.HeaderLaws.{header-good}
-use Rattle.blocks.proofs.TypedLaws.{typed-good}
+use Rattle.blocks.proofs.TypedLaws.{form-values}
 use Rattle.blocks.proofs.ReadSteps.{record-within}
 use Rattle.blocks.proofs.StepLaws.{Taking, step-took, step-inside}
 use Rattle.blocks.proofs.BoundaryLaws.{read-filled, step-end}
@@ -36,21 +37,17 @@ abbrev pub Narrow : Service → Type 0
 Narrow x = (x .sid < 16) × (x .styp < 16)
 
 -- of octets, whatever they are: both are read from four bits
-typed-narrow : (s : List ℕ) (len number marks at : ℕ) → Narrow (typedOf s len number marks at .service)
-unfolding typedOf traceAt format values
-typed-narrow s len number marks at = (mod-lt _ (omega arith), mod-lt _ (omega arith))
-
-behind-narrow : (s : List ℕ) (len number at : ℕ) (a : Answer ℕ (List ℕ)) → Narrow (typedBehind s len number at a .service)
-behind-narrow s len number at (refused n) = typed-narrow s len number 0 at
-behind-narrow s len number at (got gs p) = typed-narrow s len number _ p
+pub service-narrow : (s : List ℕ) (at : ℕ) → Narrow (serviceOf (traceAt (format (layout Form.Service)) s at))
+unfolding traceAt format values
+service-narrow s at = (mod-lt _ (omega arith), mod-lt _ (omega arith))
 
 -- a record of a block that was taken at an offset
-module _ (s : List ℕ) (len number at : ℕ) (t : Record) (next : ℕ) (fit : len ≤ length s) (k : known number ≡ true) (o : Octets s)
-    (w : Taking s len number at t next) where
-  taking-narrow : Narrow (t .service)
-  taking-narrow =
-      subst (λ (x : Record). Narrow (x .service)) (typed-good s len number at o fit k (w .r) next (w .is) ∙ sym (w .same))
-      (behind-narrow s len number at (specsAt s len (category number .most - 1) at))
+taking-narrow : (s : List ℕ) (len number at : ℕ) (t : Record) (next : ℕ) → len ≤ length s → known number ≡ true → Octets s
+    → Taking s len number at t next → Narrow (t .service)
+unfolding typedRec
+taking-narrow s len number at t next fit k o w =
+    let (x, h) = form-values s len number at o fit k (w .r) next (w .is) Form.Service in
+    rw (w .same, ← h 0 0, ← h 0 1) (service-narrow s x)
 
 -- the same of a step
 pub step-narrow : (s : List ℕ) (start : ℕ) (t : Record) (c : Cursor) → Octets s → Step.Taken t c ≡ stepOf s start → Narrow (t .service)

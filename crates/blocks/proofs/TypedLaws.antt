@@ -1,12 +1,13 @@
--- The typed record that is made by octets is the record that was read, and its entries lie within the block. Assumes nothing.
-use mathlib.Core.Path.{_≡_, refl, sym, ap, _∙_, subst}
+-- A record that was read, by the forms of its items: each was read where it starts, or is not there; its entries lie within the block.
+-- Assumes nothing.
+use mathlib.Core.Path.{_≡_, refl, sym, ap, _∙_}
 use mathlib.Core.Bool.{Bool, true, false, false≢true}
 use mathlib.Core.List.{List, [], _∷_}
 use Prim.Native.Nat.{ℕ, zero, suc, _+_, _*_, _-_, _<_, _≤_}
 use native.Mathlib.Nat.{zero-add, add-zero, zero-mul, suc-mul, div-one}
 use native.Mathlib.Omega.{arith}
-use borrow.Author.Tests.{eqb-true, lt-leb}
-use lib.Dec.{leb, eqb, eqb·suc-zero}
+use borrow.Author.Tests.{lt-leb}
+use lib.Dec.{leb, eqb}
 use lib.ListN.{length, getD}
 use Rattle.octets.specs.Choice.{pick}
 use Rattle.octets.specs.Numbers.{Octets, number}
@@ -17,10 +18,9 @@ use Rattle.layouts.specs.Offsets.{runAt, traceAt, groupsAt}
 use Rattle.layouts.specs.Layouts.{octet, times, counted, format, kindOf}
 use Rattle.layouts.specs.Ends.{kindEnd, endOf}
 use Rattle.layouts.specs.Tables.{counter, version, layout}
-use Rattle.layouts.specs.Categories.{Category, known, category, layoutAt}
+use Rattle.layouts.specs.Categories.{Category, known, category, layoutAt, entriesForm}
 use Rattle.layouts.specs.declared.ends.End.the-variants.{At}
 use Rattle.layouts.specs.declared.form.Form.{Form}
-use Rattle.layouts.specs.declared.form.Form.the-variants as form
 use Rattle.layouts.proofs.KindEnds.{forms-sound, kind-end, end-room}
 use Rattle.layouts.proofs.Windows.{run-trace, run-within}
 use Rattle.items.specs.Typed.{val, placeAt}
@@ -28,57 +28,18 @@ use Rattle.items.specs.declared.typed.Place.{Place}
 use Rattle.items.proofs.Judged.{counted-read}
 use Rattle.items.proofs.Items.{times-trace}
 use Rattle.blocks.specs.Specification.{flags}
-use Rattle.blocks.specs.Marks.{marksOf}
-use Rattle.blocks.specs.Records.{Rec, layoutOf, putItems}
+use Rattle.blocks.specs.Marks.{marksOf, flagsOf, marked, groupsOf}
+use Rattle.blocks.specs.Records.{Rec, formats, layoutOf}
 use Rattle.blocks.specs.Offsets.{specsAt, itemsAt, recordAt}
-use Rattle.blocks.specs.Typed.{typed, turn, further, fieldFor, placeIn, valuesFor, startFor, typedRec, endFrom, marked, behind, startOf, startBy, typedOf}
-use Rattle.blocks.specs.Steps.{itemsFrom, typedBehind, entryGroupOf, entryValues}
+use Rattle.blocks.specs.Typed.{typed, fieldFor, placeIn, startIn, valuesFor, startFor, typedRec}
+use Rattle.blocks.specs.Steps.{itemsFrom, entryGroupOf, entryValues}
 use Rattle.blocks.specs.declared.record.Record.{Record}
 use Rattle.blocks.proofs.AtEnd.{end-value, end-place}
-use Rattle.blocks.proofs.MarksLaws.{flags-32, flags-long, mark-more, specs-marked}
+use Rattle.blocks.proofs.MarksLaws.{flags-32, flags-long, formats-more, mark-more, specs-marked}
+use Rattle.blocks.proofs.FormLaws.{field-form}
 use Rattle.blocks.proofs.WalkSteps.{item-run, table}
-use Rattle.blocks.proofs.ItemStarts.{startIn, formats-at, formats-few, items-there, items-end}
+use Rattle.blocks.proofs.ItemStarts.{first-start, formats-at, formats-few, items-there, items-end}
 use Rattle.blocks.proofs.ReadSteps.{record-parts}
-
--- The field of a form has that form
-
-abbrev forms : List Form
-forms =
-    Form.Spare ∷ Form.Source ∷ Form.MessageType ∷ Form.Service ∷ Form.Identification ∷ Form.Time ∷ Form.Batch ∷ Form.Sdps ∷ Form.Report
-    ∷ Form.Station ∷ Form.Configuration ∷ Form.Range ∷ Form.Status ∷ Form.Statistics ∷ Form.Versions ∷ Form.Expansion ∷ Form.Purpose ∷ []
-
-in-turn : (f : Form) → getD forms (turn f) Form.Spare ≡ f
-in-turn form.Spare = refl
-in-turn form.Source = refl
-in-turn form.MessageType = refl
-in-turn form.Service = refl
-in-turn form.Identification = refl
-in-turn form.Time = refl
-in-turn form.Batch = refl
-in-turn form.Sdps = refl
-in-turn form.Report = refl
-in-turn form.Station = refl
-in-turn form.Configuration = refl
-in-turn form.Range = refl
-in-turn form.Status = refl
-in-turn form.Statistics = refl
-in-turn form.Versions = refl
-in-turn form.Expansion = refl
-in-turn form.Purpose = refl
-
--- forms with the same turn are the same
-same-turn : (f g : Form) → turn f ≡ turn g → f ≡ g
-same-turn f g h = sym (in-turn f) ∙ ap (λ (n : ℕ). getD forms n Form.Spare) h ∙ in-turn g
-
-pub field-form : (fs : List Form) (f : Form) (n : ℕ) → fieldFor fs f ≡ suc n → getD fs n Form.Spare ≡ f
-field-form [] f n h = absurd (omega arith)
-field-form (g ∷ fs) f n h = go (eqb (turn g) (turn f)) refl (fieldFor fs f) (field-form fs f) h
-  where
-    go : (b : Bool) → eqb (turn g) (turn f) ≡ b → (k : ℕ) → ((m : ℕ) → k ≡ suc m → getD fs m Form.Spare ≡ f)
-        → pick b 1 (further k) ≡ suc n → getD (g ∷ fs) n Form.Spare ≡ f
-    go true e k ih h = let z : n ≡ 0 = omega arith in rw z (same-turn g f (eqb-true (turn g) (turn f) e))
-    go false e zero ih h = absurd (omega arith)
-    go false e (suc m) ih h = let z : n ≡ suc m = omega arith in rw z (ih m refl)
 
 -- An item of a record: it was read where it starts, inside the octets; or it is not there, and is looked for at their end
 data Held (s : List ℕ) (len : ℕ) (f : Format) (start : ℕ) (tr : Trace) (from : ℕ) : Type 0 where
@@ -142,20 +103,22 @@ mark-inside (b ∷ bs) (suc n) e = omega (arith, mark-inside bs n e)
 
 -- The items behind a specification with the marks gs, field by field
 module _ (s : List ℕ) (len : ℕ) (c : Category) (gs : List ℕ) (p : ℕ) (trs : List Trace) (q : ℕ)
-    (o : Octets s) (fit : len ≤ length s) (inside : p ≤ len) (few : length gs ≤ 4) (long : length (flags gs) ≤ length (c .fields))
+    (o : Octets s) (fit : len ≤ length s) (inside : p ≤ len) (few : length gs ≤ 4) (long : length (flags gs) ≡ length (c .fields))
     (read : itemsAt s len (layoutOf c gs) p ≡ got trs q) where
   abbrev marks : ℕ
   marks = marksOf (flags gs)
 
   -- where the item of field n + 1 starts
   abbrev start : ℕ → ℕ
-  start n = startIn (layoutOf c gs) trs p n
+  start n = startIn s len (layoutOf c gs) p n
 
   -- the marks as a number are the marks that were read
-  pub mark-is : (n : ℕ) → marked s len c marks p (suc n) ≡ getD (flags gs) n false
-  mark-is n =
-      let e : suc n - 1 ≡ n = omega arith in
-      rw (e, flags-32 gs few) (mark-more (flags gs) (32 - 7 * length gs) n)
+  mark-is : (n : ℕ) → marked marks (suc n) ≡ getD (flags gs) n false
+  mark-is n = rw (flags-32 gs few) (mark-more (flags gs) (32 - 7 * length gs) n)
+
+  layout-is : formats (flagsOf 32 marks) (c .fields) ≡ layoutOf c gs
+  unfolding layoutOf
+  layout-is = rw (flags-32 gs few, formats-more (flags gs) (32 - 7 * length gs) (c .fields) (omega arith))
 
   -- an item was read from its start to the next one's
   there : (n : ℕ) → runAt s len (getD (layoutOf c gs) n done) (start n) ≡ got (getD trs n []) (start (suc n))
@@ -177,8 +140,7 @@ module _ (s : List ℕ) (len : ℕ) (c : Category) (gs : List ℕ) (p : ℕ) (tr
 
   -- so no item starts past the block's end
   start-within : (n : ℕ) → start n ≤ len
-  unfolding putItems
-  start-within zero = omega arith
+  start-within zero = rw (first-start s len (layoutOf c gs) p) inside
   start-within (suc n) =
       run-within s len (getD (layoutOf c gs) n done) (start n) (getD trs n []) (start (suc n)) (start-within n) (there n) .1
 
@@ -186,38 +148,18 @@ module _ (s : List ℕ) (len : ℕ) (c : Category) (gs : List ℕ) (p : ℕ) (tr
   ends : (n : ℕ) → Stands n true → kindEnd s len (kindOf (layoutAt c (suc n))) (start n) ≡ At (start (suc n))
   ends n h = sym (kind-end s len o (layoutAt c (suc n)) (start n) (forms-sound (getD (c .fields) n Form.Spare))) ∙ ap endOf h
 
-  -- the fields' ends by their kinds are where the items were read
-  behind-start : (n : ℕ) → behind s len c marks p n ≡ start n
-  unfolding behind putItems
-  behind-start zero = sym (add-zero p)
-  behind-start (suc n) = rw (mark-is n, behind-start n) (go (getD (flags gs) n false) (stands n))
-    where
-      go : (b : Bool) → Stands n b → pick b (endFrom (start n) (kindEnd s len (kindOf (layoutAt c (suc n))) (start n))) (start n) ≡ start (suc n)
-      go true h = rw (ends n h)
-      go false h = sym (h .1)
-
   -- behind the last field is where the items were read to
-  pub behind-end : behind s len c marks p (length (c .fields)) ≡ q
+  last-end : (n : ℕ) → length (c .fields) ≤ n → start n ≡ q
   unfolding layoutOf
-  behind-end =
-      behind-start (length (c .fields))
-      ∙ items-end s len (layoutOf c gs) p q trs read (length (c .fields)) (formats-few (flags gs) (c .fields))
-
-  -- a marked item starts inside the octets
-  pub marked-inside : (n : ℕ) → getD (flags gs) n false ≡ true → behind s len c marks p n < length s
-  marked-inside n e =
-      let h : Stands n true = subst (Stands n) e (stands n) in
-      let room = end-room s len (getD (c .fields) n Form.Spare) (start n) (start (suc n)) (ends n h) (start-within n) in
-      rw (behind-start n) (omega arith)
+  last-end n l = items-end s len (layoutOf c gs) p q trs read n (omega (arith, formats-few (flags gs) (c .fields)))
 
   -- the item of a form, by its field's number
   held : (f : Form) (k : ℕ) → fieldFor (c .fields) f ≡ k
-      → Held s len (format (layout f)) (pick (eqb k 0) (length s) (startOf s len c marks p k)) (getD ([] ∷ trs) k []) (start (k - 1))
-  unfolding startOf
+      → Held s len (format (layout f)) (pick (marked marks k) (start (k - 1)) (length s)) (getD ([] ∷ trs) k []) (start (k - 1))
   held f zero e = none refl refl
   held f (suc n) e =
       let one : suc n - 1 ≡ n = omega arith in
-      rw (eqb·suc-zero n, mark-is n, one, behind-start n) (go (getD (flags gs) n false) (stands n))
+      rw (mark-is n, one) (go (getD (flags gs) n false) (stands n))
     where
       go : (b : Bool) → Stands n b → Held s len (format (layout f)) (pick b (start n) (length s)) (getD trs n []) (start n)
       go true h =
@@ -227,7 +169,7 @@ module _ (s : List ℕ) (len : ℕ) (c : Category) (gs : List ℕ) (p : ℕ) (tr
 
 -- records with the same values and places are the same
 typed-same : (number marks : ℕ) (v w : Form → Trace) (p q : Form → ℕ → Place) → ((f : Form) (j i : ℕ) → val (v f) j i ≡ val (w f) j i)
-    → p (pick (eqb number 242) Form.Versions Form.Statistics) 0 ≡ q (pick (eqb number 242) Form.Versions Form.Statistics) 0
+    → p (entriesForm number) 0 ≡ q (entriesForm number) 0
     → p Form.Expansion 1 ≡ q Form.Expansion 1 → p Form.Purpose 1 ≡ q Form.Purpose 1 → typed number marks v p ≡ typed number marks w q
 typed-same number marks v w p q h a b d = rw (a, b, d) (simp h)
 
@@ -242,75 +184,93 @@ unfolding format
 content-counted = (refl, refl)
 
 module _ (s : List ℕ) (len number at : ℕ) (o : Octets s) (fit : len ≤ length s) (k : known number ≡ true) where
-  -- a record that was read: its specification, and the item of each form
-  record Taken (r : Rec) : Type 0 where
-    behind : ℕ
-    spec : specsAt s len (category number .most - 1) at ≡ got (r .marks) behind
-    items : (f : Form)
-        → Held s len (format (layout f))
-        (startBy s (category number) (startOf s len (category number) (marksOf (flags (r .marks))) behind) f)
-        (valuesFor (category number) r behind f) (startFor (category number) r behind f)
+  -- where the item of a form is found: at its start where it is marked, else at the end of the octets
+  abbrev pub found : Rec → ℕ → Form → ℕ
+  found r p f =
+      let c = category number in
+      pick (marked (marksOf (flags (r .marks))) (fieldFor (c .fields) f)) (startFor s len c r p f) (length s)
 
-  taken : (r : Rec) (q : ℕ) → recordAt s len (category number) at ≡ got r q → Taken r
+  -- a record that was read: its specification, the item of each form, and where the last ends
+  pub record Taken (r : Rec) (q : ℕ) : Type 0 where
+    pub behind : ℕ
+    pub spec : specsAt s len (category number .most - 1) at ≡ got (r .marks) behind
+    pub marks-are : marksOf (flags (r .marks)) ≡ marksOf (flags (groupsOf (behind - at) s at))
+    pub formats-are : formats (flagsOf 32 (marksOf (flags (r .marks)))) (category number .fields) ≡ layoutOf (category number) (r .marks)
+    pub end : (n : ℕ) → length (category number .fields) ≤ n → startIn s len (layoutOf (category number) (r .marks)) behind n ≡ q
+    items : (f : Form)
+        → Held s len (format (layout f)) (found r behind f) (valuesFor (category number) r f) (startFor s len (category number) r behind f)
+
+  pub taken : (r : Rec) (q : ℕ) → recordAt s len (category number) at ≡ got r q → Taken r q
   taken r q h =
       let c = category number in
       let t = table number k in
       let (p, e, e', z, y) = record-parts s len c at q r h in
       let w = specs-marked s len (c .most - 1) at (r .marks) p o e in
+      let few : length (r .marks) ≤ 4 = omega arith in
+      let long : length (flags (r .marks)) ≡ length (c .fields) = omega (arith, flags-long (r .marks)) in
       record {
         behind = p;
         spec = e;
-        items = λ f.
-            held s len c (r .marks) p (r .items) q o fit (w .within) (omega arith) (omega (arith, flags-long (r .marks))) e' f (fieldFor (c .fields) f) refl;
+        marks-are = w .same;
+        formats-are = layout-is s len c (r .marks) p (r .items) q o fit (w .within) few long e';
+        end = last-end s len c (r .marks) p (r .items) q o fit (w .within) few long e';
+        items = λ f. held s len c (r .marks) p (r .items) q o fit (w .within) few long e' f (fieldFor (c .fields) f) refl;
       }
 
-  -- The typed record that is made by octets is the record that was read.
-  pub typed-good : (r : Rec) (q : ℕ) → recordAt s len (category number) at ≡ got r q
-      → typedBehind s len number at (specsAt s len (category number .most - 1) at) ≡ typedRec (category number) r (itemsFrom s len (category number) at)
-  unfolding typedOf typedRec
-  typed-good r q h =
+  -- The typed record that is made of the octets where its items are found is the record that was read.
+  pub typed-found : (r : Rec) (q : ℕ) (w : Taken r q)
+      → typed (category number .number) (marksOf (flags (r .marks)))
+      (λ f. traceAt (format (layout f)) s (found r (w .behind) f)) (λ f e. placeAt s (found r (w .behind) f) e)
+      ≡ typedRec s len (category number) r (w .behind)
+  unfolding typedRec
+  typed-found r q w =
       let c = category number in
-      let w = taken r q h in
-      let start : Form → ℕ = startBy s c (startOf s len c (marksOf (flags (r .marks))) (w .behind)) in
-      let v : Form → Trace = valuesFor c r (w .behind) in
-      let from : Form → ℕ = startFor c r (w .behind) in
-      let entries = pick (eqb (c .number) 242) Form.Versions Form.Statistics in
+      let v : Form → Trace = valuesFor c r in
+      let from : Form → ℕ = startFor s len c r (w .behind) in
+      let start : Form → ℕ = found r (w .behind) in
+      let entries = entriesForm (c .number) in
       let place : (f : Form) (e : ℕ) (g : Group) → format (layout f) ≡ counted e g → placeAt s (start f) e ≡ placeIn (from f) e (v f)
       = λ f e g is. held-place s len (format (layout f)) e g (start f) (v f) (from f) is (w .items f) e in
-      rw (w .spec)
-      (typed-same (c .number) (marksOf (flags (r .marks)))
+      typed-same (c .number) (marksOf (flags (r .marks)))
       (λ f. traceAt (format (layout f)) s (start f)) v (λ f e. placeAt s (start f) e) (λ f e. placeIn (from f) e (v f))
       (λ f. held-value s len (format (layout f)) (start f) (v f) (from f) (w .items f))
       (place entries 0 (pick (eqb (c .number) 242) version counter) (entries-counted (eqb (c .number) 242)))
       (place Form.Expansion 1 octet (content-counted .0))
-      (place Form.Purpose 1 octet (content-counted .1)))
+      (place Form.Purpose 1 octet (content-counted .1))
+
+  -- The values of an item are those that stand at some offset.
+  pub form-values : (r : Rec) (q : ℕ) → recordAt s len (category number) at ≡ got r q → (f : Form)
+      → (x : ℕ) × ((j i : ℕ) → val (traceAt (format (layout f)) s x) j i ≡ val (valuesFor (category number) r f) j i)
+  form-values r q h f =
+      let w = taken r q h in
+      (found r (w .behind) f, held-value s len (format (layout f)) _ _ _ (w .items f))
 
   -- The entries of a record that was read lie within the block.
   pub entries-within : (r : Rec) (q : ℕ) → recordAt s len (category number) at ≡ got r q
-      → (t : Record) → t ≡ typedRec (category number) r (itemsFrom s len (category number) at)
+      → (t : Record) → t ≡ typedRec s len (category number) r (itemsFrom s len (category number) at)
       → t .entries .at + t .entries .count * entryGroupOf (t .category) .wide ≤ len
   unfolding typedRec
   entries-within r q h t is =
       let c = category number in
       let w = taken r q h in
-      let entries = pick (eqb (c .number) 242) Form.Versions Form.Statistics in
+      let entries = entriesForm (c .number) in
       rw (is, w .spec)
       (held-within s len fit (format (layout entries)) (entryGroupOf (c .number))
-      (startBy s c (startOf s len c (marksOf (flags (r .marks))) (w .behind)) entries) (valuesFor c r (w .behind) entries) (startFor c r (w .behind) entries)
+      (found r (w .behind) entries) (valuesFor c r entries) (startFor s len c r (w .behind) entries)
       (entries-counted (eqb (c .number) 242)) (w .items entries))
 
   -- Entry n of a record that was read is the one that its item's values have.
   pub entry-values : (r : Rec) (q : ℕ) → recordAt s len (category number) at ≡ got r q
-      → (t : Record) → t ≡ typedRec (category number) r (itemsFrom s len (category number) at) → (n : ℕ) → n < t .entries .count
+      → (t : Record) → t ≡ typedRec s len (category number) r (itemsFrom s len (category number) at) → (n : ℕ) → n < t .entries .count
       → entryValues s (entryGroupOf (t .category)) (t .entries .at) n
-      ≡ getD (valuesFor (category number) r (itemsFrom s len (category number) at) (pick (eqb (category number .number) 242) Form.Versions Form.Statistics)) (suc n) []
+      ≡ getD (valuesFor (category number) r (entriesForm (category number .number))) (suc n) []
   unfolding typedRec
   entry-values r q h t is n l =
       let c = category number in
       let w = taken r q h in
-      let entries = pick (eqb (c .number) 242) Form.Versions Form.Statistics in
-      let l' : n < placeIn (startFor c r (w .behind) entries) 0 (valuesFor c r (w .behind) entries) .count = rw (is, w .spec) at l in
+      let entries = entriesForm (c .number) in
+      let l' : n < placeIn (startFor s len c r (w .behind) entries) 0 (valuesFor c r entries) .count = rw (is, w .spec) at l in
       rw (is, w .spec)
       (held-entry s len fit (format (layout entries)) (entryGroupOf (c .number))
-      (startBy s c (startOf s len c (marksOf (flags (r .marks))) (w .behind)) entries) (valuesFor c r (w .behind) entries) (startFor c r (w .behind) entries)
+      (found r (w .behind) entries) (valuesFor c r entries) (startFor s len c r (w .behind) entries)
       (entries-counted (eqb (c .number) 242)) (w .items entries) n l')

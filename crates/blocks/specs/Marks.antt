@@ -1,5 +1,5 @@
 -- Marks as a number: bit f - 1 for field f, as the typed record has them.
-use mathlib.Core.Bool.{Bool, true, _&&_}
+use mathlib.Core.Bool.{Bool, true, false, _&&_}
 use mathlib.Core.List.{List, [], _∷_}
 use Prim.Native.Nat.{ℕ, zero, suc, _+_, _*_, _/_}
 use lib.ListN.{getD}
@@ -14,6 +14,10 @@ marksOf (b ∷ bs) = pick b 1 0 + marksOf bs * 2
 unfoldable pub flagsOf : ℕ → ℕ → List Bool
 flagsOf zero m = []
 flagsOf (suc n) m = odd m ∷ flagsOf n (m / 2)
+
+-- whether a field is marked; there is no field 0
+abbrev pub marked : ℕ → ℕ → Bool
+marked m f = getD (false ∷ flagsOf 32 m) f false
 
 -- the marks in n specification octets from an offset, seven to a number
 unfoldable pub groupsOf : ℕ → List ℕ → ℕ → List ℕ

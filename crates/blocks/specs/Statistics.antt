@@ -1,33 +1,39 @@
 -- What the ledger asks of a record, in plain numbers.
-use mathlib.Core.Bool.{Bool, false, _&&_}
+use mathlib.Core.Bool.{Bool, _&&_}
 use mathlib.Core.List.{List}
-use Prim.Native.Nat.{ℕ, _+_, _*_, _-_}
+use Prim.Native.Nat.{ℕ, _+_, _*_}
 use lib.Dec.{eqb}
 use lib.ListN.{getD}
 use Rattle.octets.specs.Choice.{pick}
-use Rattle.blocks.specs.Marks.{flagsOf}
+use Rattle.items.specs.declared.typed.Place.{Place}
+use Rattle.items.specs.declared.typed.Service.{Service}
+use Rattle.items.specs.declared.typed.Source.{Source}
+use Rattle.blocks.specs.Marks.{marked}
 use Rattle.blocks.specs.Steps.{entryGroupOf, entryValues}
 use Rattle.blocks.specs.declared.record.Record.{Record}
 use Rattle.blocks.specs.declared.statistics.Statistics.{Statistics}
 use Rattle.blocks.specs.declared.statistics.Entry.{Entry}
 use Rattle.blocks.specs.declared.statistics.Seen.{Seen}
 
-abbrev marked : Record → ℕ → Bool
-marked t f = getD (flagsOf 32 (t .marks)) (f - 1) false
-
 -- a statistics report (01 "Refusal numbers", 13): category 23 type 3, with 010 (field 1), 015 (field 3) and 120 (field 9)
-abbrev pub isStatistics : Record → Bool
-isStatistics t = eqb (t .category) 23 && eqb (t .«message_type») 3 && marked t 1 && marked t 3 && marked t 9
+abbrev pub isReport : ℕ → ℕ → ℕ → Bool
+isReport category type marks = eqb category 23 && eqb type 3 && marked marks 1 && marked marks 3 && marked marks 9
 
--- the octet of 015 has SID in bits 8/5 and STYP in bits 4/1
-abbrev pub statisticsOf : Record → Statistics
-statisticsOf t = record {
-  sac = t .source .sac;
-  sic = t .source .sic;
-  service = t .service .sid * 16 + t .service .styp;
-  at = t .entries .at;
-  count = t .entries .count;
+abbrev pub isStatistics : Record → Bool
+isStatistics t = isReport (t .category) (t .«message_type») (t .marks)
+
+-- its numbers: the octet of 015 has SID in bits 8/5 and STYP in bits 4/1
+abbrev pub numbersOf : Source → Service → Place → Statistics
+numbersOf source service entries = record {
+  sac = source .sac;
+  sic = source .sic;
+  service = service .sid * 16 + service .styp;
+  at = entries .at;
+  count = entries .count;
 }
+
+abbrev pub statisticsOf : Record → Statistics
+statisticsOf t = numbersOf (t .source) (t .service) (t .entries)
 
 -- entry k of 23/120, of those that lie from an offset: TYPE, REF, count
 abbrev pub entryOf : List ℕ → ℕ → ℕ → Entry

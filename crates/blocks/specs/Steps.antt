@@ -13,11 +13,9 @@ use Rattle.layouts.specs.Tables.{counter, version}
 use Rattle.layouts.specs.Categories.{Category, category}
 use Rattle.items.specs.Typed.{counterOf, versionOf}
 use Rattle.blocks.specs.Headers.{headerOf}
-use Rattle.blocks.specs.Specification.{flags}
-use Rattle.blocks.specs.Marks.{marksOf}
 use Rattle.blocks.specs.Records.{Rec}
 use Rattle.blocks.specs.Offsets.{specsAt, recordAt}
-use Rattle.blocks.specs.Typed.{absent, typedRec, typedOf}
+use Rattle.blocks.specs.Typed.{absent, stopOf, typedRec}
 use Rattle.blocks.specs.declared.header.Head.{Head}
 use Rattle.blocks.specs.declared.header.Head.the-variants as head
 use Rattle.blocks.specs.declared.record.Record.{Record}
@@ -26,29 +24,19 @@ use Rattle.blocks.specs.declared.cursor.Step.the-variants as step
 use Rattle.blocks.specs.declared.cursor.Found.{Found}
 use Rattle.blocks.specs.declared.cursor.Found.the-variants as found
 
--- where an answer ended; at the start where it was refused
-abbrev pub stopOf : {A : Type 0} → ℕ → Answer ℕ A → ℕ
-stopOf at (refused n) = at
-stopOf at (got a q) = q
-
 -- where the items of a record at an offset start: behind its specification
 abbrev pub itemsFrom : List ℕ → ℕ → Category → ℕ → ℕ
 itemsFrom s len c at = stopOf at (specsAt s len (c .most - 1) at)
 
--- the typed record that is made of the octets behind a specification
-abbrev pub typedBehind : List ℕ → ℕ → ℕ → ℕ → Answer ℕ (List ℕ) → Record
-typedBehind s len number at (refused n) = typedOf s len number 0 at
-typedBehind s len number at (got gs p) = typedOf s len number (marksOf (flags gs)) p
-
 -- by what is made of a refusal, its number and offset, and of a typed record with the next start
 module _ {A : Type 0} (no : ℕ → ℕ → A) (yes : Record → ℕ → A) where
-  abbrev pub takenBy : Category → ℕ → ℕ → Answer ℕ Rec → A
-  takenBy c at p (refused n) = no n at
-  takenBy c at p (got r q) = yes (typedRec c r p) q
+  abbrev pub takenBy : List ℕ → ℕ → Category → ℕ → Answer ℕ Rec → A
+  takenBy s len c at (refused n) = no n at
+  takenBy s len c at (got r q) = yes (typedRec s len c r (itemsFrom s len c at)) q
 
   -- a record of a block from an offset
   unfoldable pub takeBy : List ℕ → ℕ → ℕ → ℕ → A
-  takeBy s len number at = takenBy (category number) at (itemsFrom s len (category number) at) (recordAt s len (category number) at)
+  takeBy s len number at = takenBy s len (category number) at (recordAt s len (category number) at)
 
   -- the header first; a start below 3, or at or past LEN, gets 17; any other is read as if a record began there
   abbrev pub stepFrom : List ℕ → ℕ → Head → A

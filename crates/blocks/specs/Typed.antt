@@ -1,25 +1,21 @@
 -- The typed record: of each item its values, by its form; an item that is not there has none, and is all zero.
-use mathlib.Core.Bool.{Bool, false}
 use mathlib.Core.List.{List, [], _∷_}
 use Prim.Native.Nat.{ℕ, zero, suc, _+_, _-_}
 use lib.Dec.{eqb}
-use lib.ListN.{length, getD, take}
+use lib.ListN.{getD}
 use Rattle.octets.specs.Choice.{pick}
-use Rattle.layouts.specs.Formats.{Trace}
-use Rattle.layouts.specs.Offsets.{traceAt}
-use Rattle.layouts.specs.Layouts.{format, kindOf}
-use Rattle.layouts.specs.Ends.{kindEnd}
+use Rattle.layouts.specs.Formats.{Answer, refused, got, Format, Trace}
+use Rattle.layouts.specs.Offsets.{runAt, traceAt}
+use Rattle.layouts.specs.Layouts.{format}
 use Rattle.layouts.specs.Tables.{layout}
-use Rattle.layouts.specs.Categories.{Category, category, layoutAt, entriesForm}
-use Rattle.layouts.specs.declared.ends.End.{End}
-use Rattle.layouts.specs.declared.ends.End.the-variants.{At, Refused}
+use Rattle.layouts.specs.Categories.{Category, entriesForm}
 use Rattle.layouts.specs.declared.form.Form.{Form}
-use Rattle.layouts.specs.declared.form.Form.the-variants as form
 use Rattle.items.specs.Typed.{val, sourceOf, serviceOf, timeOf, sdpsOf, stationOf, configurationOf, placeAt}
 use Rattle.items.specs.declared.typed.Place.{Place}
+use Rattle.blocks.specs.Forms.{formNumber}
 use Rattle.blocks.specs.Specification.{flags}
-use Rattle.blocks.specs.Marks.{marksOf, flagsOf}
-use Rattle.blocks.specs.Records.{Rec, layoutOf, putItems}
+use Rattle.blocks.specs.Marks.{marksOf}
+use Rattle.blocks.specs.Records.{Rec, layoutOf}
 use Rattle.blocks.specs.declared.record.Record.{Record}
 
 abbrev pub nowhere : Place
@@ -52,35 +48,15 @@ typed number marks values place = record {
 abbrev pub absent : Record
 absent = typed 0 0 (λ f. []) (λ f e. nowhere)
 
--- the forms in turn
-abbrev pub turn : Form → ℕ
-turn form.Spare = 0
-turn form.Source = 1
-turn form.MessageType = 2
-turn form.Service = 3
-turn form.Identification = 4
-turn form.Time = 5
-turn form.Batch = 6
-turn form.Sdps = 7
-turn form.Report = 8
-turn form.Station = 9
-turn form.Configuration = 10
-turn form.Range = 11
-turn form.Status = 12
-turn form.Statistics = 13
-turn form.Versions = 14
-turn form.Expansion = 15
-turn form.Purpose = 16
-
--- one field further; none stays none
-abbrev pub further : ℕ → ℕ
-further zero = 0
-further (suc f) = suc (suc f)
+-- the field after one; after none there is none
+abbrev pub fieldAfter : ℕ → ℕ
+fieldAfter zero = 0
+fieldAfter (suc f) = suc (suc f)
 
 -- the number of the field of a form, from 1; 0 where there is none
 abbrev pub fieldFor : List Form → Form → ℕ
 fieldFor [] f = 0
-fieldFor (g ∷ gs) f = pick (eqb (turn g) (turn f)) 1 (further (fieldFor gs f))
+fieldFor (g ∷ gs) f = pick (eqb (formNumber g) (formNumber f)) 1 (fieldAfter (fieldFor gs f))
 
 -- Of a record that was read, its items behind an offset
 
@@ -89,45 +65,32 @@ abbrev pub placeIn : ℕ → ℕ → Trace → Place
 placeIn at e [] = nowhere
 placeIn at e (v ∷ tr) = record { at = at + 1; count = getD v 0 0 - e }
 
-module _ (c : Category) (r : Rec) (at : ℕ) where
-  -- the values of the item of a form
-  abbrev pub valuesFor : Form → Trace
-  valuesFor f = getD ([] ∷ r .items) (fieldFor (c .fields) f) []
+-- where an answer ended; at the start where it was refused
+abbrev pub stopOf : {A : Type 0} → ℕ → Answer ℕ A → ℕ
+stopOf at (refused n) = at
+stopOf at (got a q) = q
 
+-- of items one after the other, where the one starts that has n before it: where these end
+unfoldable pub startIn : List ℕ → ℕ → List Format → ℕ → ℕ → ℕ
+startIn s len fs at zero = at
+startIn s len [] at (suc n) = at
+startIn s len (f ∷ fs) at (suc n) = startIn s len fs (stopOf at (runAt s len f at)) n
+
+-- the values of the item of a form
+abbrev pub valuesFor : Category → Rec → Form → Trace
+valuesFor c r f = getD ([] ∷ r .items) (fieldFor (c .fields) f) []
+
+module _ (s : List ℕ) (len : ℕ) (c : Category) (r : Rec) (at : ℕ) where
   -- where it starts: behind the items of the fields before it
   abbrev pub startFor : Form → ℕ
-  startFor f = at + length (putItems (take (fieldFor (c .fields) f - 1) (layoutOf c (r .marks))) (r .items) [])
+  startFor f = startIn s len (layoutOf c (r .marks)) at (fieldFor (c .fields) f - 1)
 
   unfoldable pub typedRec : Record
-  typedRec = typed (c .number) (marksOf (flags (r .marks))) valuesFor (λ f e. placeIn (startFor f) e (valuesFor f))
+  typedRec = typed (c .number) (marksOf (flags (r .marks))) (valuesFor c r) (λ f e. placeIn (startFor f) e (valuesFor c r f))
 
--- Of octets: each item is read at its start; what is not there is read at the end of the octets, where everything is zero
-
-abbrev pub endFrom : ℕ → End → ℕ
-endFrom at (At q) = q
-endFrom at (Refused n) = at
-
-module _ (s : List ℕ) (len : ℕ) (c : Category) (marks at : ℕ) where
-  abbrev pub marked : ℕ → Bool
-  marked f = getD (flagsOf 32 marks) (f - 1) false
-
-  -- where the items of the first n fields end
-  unfoldable pub behind : ℕ → ℕ
-  behind zero = at
-  behind (suc n) = pick (marked (suc n)) (endFrom (behind n) (kindEnd s len (kindOf (layoutAt c (suc n))) (behind n))) (behind n)
-
-  -- where the item of a field starts; the end of the octets where it is not there
-  unfoldable pub startOf : ℕ → ℕ
-  startOf f = pick (marked f) (behind (f - 1)) (length s)
-
-module _ (s : List ℕ) (c : Category) (start : ℕ → ℕ) where
-  -- where the item of a form starts, from the starts by field number
-  abbrev pub startBy : Form → ℕ
-  startBy f = pick (eqb (fieldFor (c .fields) f) 0) (length s) (start (fieldFor (c .fields) f))
-
-  abbrev pub typedBy : ℕ → Record
-  typedBy marks = typed (c .number) marks (λ f. traceAt (format (layout f)) s (startBy f)) (λ f e. placeAt s (startBy f) e)
-
--- a record of a category whose items start behind its specification
-unfoldable pub typedOf : List ℕ → ℕ → ℕ → ℕ → ℕ → Record
-typedOf s len number marks at = typedBy s (category number) (startOf s len (category number) marks at) marks
+-- Of octets, the items that start at these offsets, by the numbers of their forms; one that is not there starts at the end of the octets, where
+-- everything is zero
+abbrev pub typedBy : List ℕ → ℕ → ℕ → List ℕ → Record
+typedBy s number marks starts =
+    let start : Form → ℕ = λ f. getD starts (formNumber f) 0 in
+    typed number marks (λ f. traceAt (format (layout f)) s (start f)) (λ f e. placeAt s (start f) e)

@@ -3,12 +3,10 @@ ghost use mathlib.Core.Path.{_≡_};
 ghost use mathlib.Core.Bool.{true};
 ghost use Prim.Native.Nat.{_+_, _*_, _-_, _≤_, _<_};
 ghost use lib.ListN.{length};
-ghost use Rattle.layouts.specs.Categories.{category, known};
-ghost use Rattle.blocks.specs.Offsets.{specsAt};
-ghost use Rattle.blocks.specs.Steps.{typedBehind, takeOf, stepOf, listedStep, stepListed, entryGroupOf, entryIn, entryOf, listedEntry, entryListed};
+ghost use Rattle.layouts.specs.Categories.{known};
+ghost use Rattle.blocks.specs.Steps.{takeOf, stepOf, listedStep, stepListed, entryGroupOf, entryIn, entryOf, listedEntry, entryListed};
 use crate::header::Head;
 use crate::header::header;
-use crate::marks::marks_at;
 use crate::record::Record;
 use crate::record::typed_record;
 use crate::walk::Walked;
@@ -18,9 +16,6 @@ use items::item::version_at;
 use items::typed::Counter;
 use items::typed::Version;
 use layouts::category::Cat242;
-use layouts::category::most_of;
-use layouts::ends::End;
-use layouts::ends::specification_end;
 use octets::refusal;
 
 // Where a record starts.
@@ -41,21 +36,6 @@ pub enum Found {
     Refused(u8, usize),
 }
 
-// The typed record behind the specification at an offset.
-fn record_at(s: &[u8], len: usize, number: u8, at: usize) -> Record
-    requires { ⌜ (at ≤ len) × (len ≤ length (now s)) × (known number ≡ true) ⌝ }
-    ensures { λ r. ⌜ r ≡ typedBehind (now (s .entry)) len number at (specsAt (now (s .entry)) len (category number .most - 1) at) ⌝ }
-{
-    let end = specification_end(s, len, at, most_of(number));
-    match end {
-        End::Refused(_) => typed_record(s, len, number, 0, at),
-        End::At(p) => {
-            let marks = marks_at(s, at, p - at);
-            typed_record(s, len, number, marks, p)
-        }
-    }
-}
-
 // A step inside a block whose header is good. For the next layer, which judges the header once for all steps.
 pub fn take(s: &[u8], len: usize, number: u8, at: usize) -> Step
     requires { ⌜ (at < len) × (len ≤ length (now s)) × (known number ≡ true) ⌝ }
@@ -65,7 +45,7 @@ pub fn take(s: &[u8], len: usize, number: u8, at: usize) -> Step
     match walked {
         Walked::Refused(n, start) => Step::Refused(n, start),
         Walked::To(next, _) => {
-            let record = record_at(s, len, number, at);
+            let record = typed_record(s, len, number, at);
             let cursor = Cursor { at: next };
             Step::Taken(record, cursor)
         }

@@ -1,13 +1,21 @@
 // The typed record, made from the places where its items start.
 ghost use mathlib.Core.Path.{_≡_};
 ghost use mathlib.Core.Bool.{true};
-ghost use Prim.Native.Nat.{ℕ, _+_, _≤_, _<_};
+ghost use Prim.Native.Nat.{ℕ, _+_, _≤_};
 ghost use lib.ListN.{length, getD};
-ghost use Rattle.layouts.specs.Layouts.{kindOf};
-ghost use Rattle.layouts.specs.Ends.{kindEnd};
-ghost use Rattle.layouts.specs.Categories.{cat23, cat65, cat242, category, known, layoutAt};
-ghost use Rattle.blocks.specs.Typed.{endFrom, startOf, typedBy, typedOf};
-use crate::marks::is_marked;
+ghost use Rattle.layouts.specs.Formats.{got};
+ghost use Rattle.layouts.specs.Offsets.{runAt};
+ghost use Rattle.layouts.specs.Layouts.{format, kindOf};
+ghost use Rattle.layouts.specs.Tables.{layout};
+ghost use Rattle.layouts.specs.Categories.{category, known, entriesForm};
+ghost use Rattle.blocks.specs.Records.{Rec};
+ghost use Rattle.blocks.specs.Offsets.{recordAt};
+ghost use Rattle.blocks.specs.Forms.{formNumber};
+ghost use Rattle.blocks.specs.Typed.{stopOf, typedBy, typedRec};
+ghost use Rattle.blocks.specs.Steps.{itemsFrom};
+use crate::marks::last_field;
+use crate::marks::marks_at;
+use crate::marks::next_field;
 use items::item::configuration_at;
 use items::item::octet_at;
 use items::item::place_at;
@@ -18,20 +26,20 @@ use items::item::station_at;
 use items::item::status_at;
 use items::item::time_at;
 use items::typed::Configuration;
-use items::typed::HalfSeconds;
 use items::typed::Place;
 use items::typed::Sdps;
-use items::typed::Seconds;
 use items::typed::Service;
 use items::typed::Source;
 use items::typed::Station;
 use items::typed::TimeOfDay;
-use layouts::category::Cat23;
-use layouts::category::Cat65;
 use layouts::category::Cat242;
+use layouts::category::Field;
 use layouts::category::field_of;
+use layouts::category::most_of;
 use layouts::ends::End;
 use layouts::ends::kind_end;
+use layouts::ends::specification_end;
+use layouts::form::Form;
 
 // A record: its category, the marks of its fields (bit f - 1 for field f), and all items of document 01. An item that is not marked is
 // all zero. Entries are those of 23/120 or 242/550.
@@ -55,155 +63,141 @@ pub struct Record {
     pub purpose: Place,
 }
 
-const NOWHERE: Place = Place { at: 0, count: 0 };
+// A record's marks, where its items start, by the numbers of their forms, and where the last ends.
+pub(crate) struct Starts {
+    pub marks: u32,
+    pub items: [usize; 17],
+    pub end: usize,
+}
 
-const NO_SERVICE: Service = Service { sid: 0, styp: 0 };
-
-const NO_SDPS: Sdps = Sdps {
-    nogo: 0,
-    ovl: 0,
-    tsv: 0,
-    pss: 0,
-};
-
-const NO_STATION: Station = Station {
-    nogo: 0,
-    odp: 0,
-    oxt: 0,
-    msc: 0,
-    tsv: 0,
-    spo: 0,
-    rn: 0,
-    extended: 0,
-    gssp: Seconds(0),
-};
-
-const NO_CONFIGURATION: Configuration = Configuration {
-    rp: HalfSeconds(0),
-    sc: 0,
-    extended: 0,
-    ssrp: Seconds(0),
-};
-
-// Where the item of a field ends; its start, where it does not end.
-fn item_end(s: &[u8], len: usize, number: u8, f: usize, p: usize) -> usize
-    requires { ⌜ (p ≤ len) × (len ≤ length (now s)) ⌝ }
-    ensures { λ r. ⌜ (r ≡ endFrom p (kindEnd (now (s .entry)) len (kindOf (layoutAt (category number) f)) p)) × (r ≤ len) ⌝ }
+// A form's number.
+fn form_number(form: Form) -> usize
+    ensures { λ r. ⌜ r ≡ formNumber form ⌝ }
 {
-    let field = field_of(number, f);
+    match form {
+        Form::Spare => 0,
+        Form::Source => 1,
+        Form::MessageType => 2,
+        Form::Service => 3,
+        Form::Identification => 4,
+        Form::Time => 5,
+        Form::Batch => 6,
+        Form::Sdps => 7,
+        Form::Report => 8,
+        Form::Station => 9,
+        Form::Configuration => 10,
+        Form::Range => 11,
+        Form::Status => 12,
+        Form::Statistics => 13,
+        Form::Versions => 14,
+        Form::Expansion => 15,
+        Form::Purpose => 16,
+    }
+}
+
+// Where the item of a form starts.
+pub(crate) fn start_of(items: [usize; 17], form: Form) -> usize
+    ensures { λ r. ⌜ r ≡ getD items (formNumber form) 0 ⌝ }
+{
+    let n = form_number(form);
+    items[n]
+}
+
+// Where an item ends; its start, where it does not end.
+fn item_end(s: &[u8], len: usize, field: Field, p: usize) -> usize
+    requires { ⌜ (p ≤ len) × (len ≤ length (now s)) × (field .1 ≡ kindOf (layout (field .0))) ⌝ }
+    ensures { λ r. ⌜ (r ≡ stopOf p (runAt (now (s .entry)) len (format (layout (field .0))) p)) × (r ≤ len) ⌝ }
+{
     let kind = field.1;
-    let e = kind_end(s, len, p, kind);
-    match e {
+    let end = kind_end(s, len, p, kind);
+    match end {
         End::At(q) => q,
         End::Refused(_) => p,
     }
 }
 
-// Where the items of marked fields start, by field number from 0; the end of the octets for the others.
-fn starts_at(s: &[u8], len: usize, number: u8, marks: u32, at: usize) -> [usize; 15]
-    requires { ⌜ (at ≤ len) × (len ≤ length (now s)) ⌝ }
-    ensures { λ r. ⌜ ((f : ℕ) → 1 ≤ f → f < 15 → getD r f 0 ≡ startOf (now (s .entry)) len (category number) marks at f) × ((f : ℕ) → getD r f 0 ≤ length (now (s .entry))) ⌝ }
-{
-    let end = s.len();
-    let mut starts = [end; 15];
-    let mut p = at;
-    let mut f: usize = 1;
-    while f < 15 {
-        if is_marked(marks, f) {
-            starts[f] = p;
-            p = item_end(s, len, number, f, p);
-        }
-        f += 1;
-    }
-    starts
-}
-
-fn record_23(s: &[u8], marks: u32, starts: [usize; 15]) -> Record
-    requires { ⌜ ((f : ℕ) → getD starts f 0 ≤ length (now s)) ⌝ }
-    ensures { λ r. ⌜ r ≡ typedBy (now (s .entry)) cat23 (λ f. getD starts f 0) marks ⌝ }
-{
-    Record {
-        category: Cat23::NUMBER,
-        marks,
-        source: source_at(s, starts[1]),
-        message_type: octet_at(s, starts[2]),
-        service: service_at(s, starts[3]),
-        identification: 0,
-        time: time_at(s, starts[4]),
-        batch: 0,
-        sdps: NO_SDPS,
-        report: 0,
-        station: station_at(s, starts[5]),
-        configuration: configuration_at(s, starts[6]),
-        range: octet_at(s, starts[7]),
-        status: status_at(s, starts[8]),
-        entries: place_at(s, starts[9], 0),
-        expansion: place_at(s, starts[13], 1),
-        purpose: place_at(s, starts[14], 1),
-    }
-}
-
-fn record_65(s: &[u8], marks: u32, starts: [usize; 15]) -> Record
-    requires { ⌜ ((f : ℕ) → getD starts f 0 ≤ length (now s)) ⌝ }
-    ensures { λ r. ⌜ r ≡ typedBy (now (s .entry)) cat65 (λ f. getD starts f 0) marks ⌝ }
-{
-    Record {
-        category: Cat65::NUMBER,
-        marks,
-        source: source_at(s, starts[1]),
-        message_type: octet_at(s, starts[2]),
-        service: NO_SERVICE,
-        identification: octet_at(s, starts[3]),
-        time: time_at(s, starts[4]),
-        batch: octet_at(s, starts[5]),
-        sdps: sdps_at(s, starts[6]),
-        report: octet_at(s, starts[7]),
-        station: NO_STATION,
-        configuration: NO_CONFIGURATION,
-        range: 0,
-        status: 0,
-        entries: NOWHERE,
-        expansion: place_at(s, starts[13], 1),
-        purpose: place_at(s, starts[14], 1),
-    }
-}
-
-fn record_242(s: &[u8], marks: u32, starts: [usize; 15]) -> Record
-    requires { ⌜ ((f : ℕ) → getD starts f 0 ≤ length (now s)) ⌝ }
-    ensures { λ r. ⌜ r ≡ typedBy (now (s .entry)) cat242 (λ f. getD starts f 0) marks ⌝ }
-{
-    Record {
-        category: Cat242::NUMBER,
-        marks,
-        source: source_at(s, starts[1]),
-        message_type: 0,
-        service: NO_SERVICE,
-        identification: 0,
-        time: time_at(s, starts[2]),
-        batch: 0,
-        sdps: NO_SDPS,
-        report: 0,
-        station: NO_STATION,
-        configuration: NO_CONFIGURATION,
-        range: 0,
-        status: 0,
-        entries: place_at(s, starts[3], 0),
-        expansion: place_at(s, starts[7], 1),
-        purpose: place_at(s, starts[6], 1),
-    }
-}
-
-// The typed record of a category whose items start at an offset.
-pub fn typed_record(s: &[u8], len: usize, number: u8, marks: u32, at: usize) -> Record
+// Where the specification at an offset ends; the offset, where it does not end.
+fn items_from(s: &[u8], len: usize, number: u8, at: usize) -> usize
     requires { ⌜ (at ≤ len) × (len ≤ length (now s)) × (known number ≡ true) ⌝ }
-    ensures { λ r. ⌜ r ≡ typedOf (now (s .entry)) len number marks at ⌝ }
+    ensures { λ r. ⌜ (r ≡ itemsFrom (now (s .entry)) len (category number) at) × (at ≤ r) × (r ≤ len) × (r ≤ at + 4) ⌝ }
 {
-    let starts = starts_at(s, len, number, marks, at);
-    if number == Cat23::NUMBER {
-        return record_23(s, marks, starts);
+    let end = specification_end(s, len, at, most_of(number));
+    match end {
+        End::At(p) => p,
+        End::Refused(_) => at,
     }
-    if number == Cat65::NUMBER {
-        return record_65(s, marks, starts);
+}
+
+// The starts of a record at an offset: past the items of its marked fields. Of a record that reading gives, these make the typed record.
+pub(crate) fn starts_at(s: &[u8], len: usize, number: u8, at: usize) -> Starts
+    requires { ⌜ (at ≤ len) × (len ≤ length (now s)) × (known number ≡ true) ⌝ }
+    ensures { λ r. ⌜ ((x : Rec) → (q : ℕ) → recordAt (now (s .entry)) len (category number) at ≡ got x q → (r .end ≡ q) × (typedBy (now (s .entry)) number (r .marks) (r .items) ≡ typedRec (now (s .entry)) len (category number) x (itemsFrom (now (s .entry)) len (category number) at))) × ((n : ℕ) → getD (r .items) n 0 ≤ length (now (s .entry))) ⌝ }
+{
+    let from = items_from(s, len, number, at);
+    let marks = marks_at(s, at, from - at);
+    let last = last_field(number);
+    let none = s.len();
+    let mut items = [none; 17];
+    let mut p = from;
+    let mut f = next_field(marks, 1);
+    while f <= last {
+        let field = field_of(number, f);
+        let form = field.0;
+        let n = form_number(form);
+        items[n] = p;
+        p = item_end(s, len, field, p);
+        f = next_field(marks, f + 1);
     }
-    record_242(s, marks, starts)
+    Starts {
+        marks,
+        items,
+        end: p,
+    }
+}
+
+// The form of a category's entries.
+fn entries_form(number: u8) -> Form
+    ensures { λ r. ⌜ r ≡ entriesForm number ⌝ }
+{
+    if number == Cat242::NUMBER {
+        Form::Versions
+    } else {
+        Form::Statistics
+    }
+}
+
+// The typed record of items that start at these offsets.
+fn record_by(s: &[u8], number: u8, marks: u32, items: [usize; 17]) -> Record
+    requires { ⌜ ((n : ℕ) → getD items n 0 ≤ length (now s)) ⌝ }
+    ensures { λ r. ⌜ r ≡ typedBy (now (s .entry)) number marks items ⌝ }
+{
+    Record {
+        category: number,
+        marks,
+        source: source_at(s, start_of(items, Form::Source)),
+        message_type: octet_at(s, start_of(items, Form::MessageType)),
+        service: service_at(s, start_of(items, Form::Service)),
+        identification: octet_at(s, start_of(items, Form::Identification)),
+        time: time_at(s, start_of(items, Form::Time)),
+        batch: octet_at(s, start_of(items, Form::Batch)),
+        sdps: sdps_at(s, start_of(items, Form::Sdps)),
+        report: octet_at(s, start_of(items, Form::Report)),
+        station: station_at(s, start_of(items, Form::Station)),
+        configuration: configuration_at(s, start_of(items, Form::Configuration)),
+        range: octet_at(s, start_of(items, Form::Range)),
+        status: status_at(s, start_of(items, Form::Status)),
+        entries: place_at(s, start_of(items, entries_form(number)), 0),
+        expansion: place_at(s, start_of(items, Form::Expansion), 1),
+        purpose: place_at(s, start_of(items, Form::Purpose), 1),
+    }
+}
+
+// The typed record at an offset, of a record that reading gives.
+pub(crate) fn typed_record(s: &[u8], len: usize, number: u8, at: usize) -> Record
+    requires { ⌜ (at ≤ len) × (len ≤ length (now s)) × (known number ≡ true) ⌝ }
+    ensures { λ r. ⌜ ((x : Rec) → (q : ℕ) → recordAt (now (s .entry)) len (category number) at ≡ got x q → r ≡ typedRec (now (s .entry)) len (category number) x (itemsFrom (now (s .entry)) len (category number) at)) ⌝ }
+{
+    let starts = starts_at(s, len, number, at);
+    let items = starts.items;
+    record_by(s, number, starts.marks, items)
 }

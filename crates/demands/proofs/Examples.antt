@@ -14,7 +14,7 @@ use Rattle.blocks.specs.Records.{formats, marksSpare, layoutOf, marksRefusal, p
 use Rattle.blocks.specs.Blocks.{records, blockOf, putRecs, putBlock}
 use Rattle.blocks.specs.Offsets.{specsAt, itemsAt, recordAt, recordsAt}
 use Rattle.blocks.specs.Walks.{readOf, runOf, restOf, readListed}
-use Rattle.blocks.specs.Typed.{typedRec}
+use Rattle.blocks.specs.Typed.{startIn, typedRec}
 use Rattle.blocks.specs.Steps.{takeBy, stepBy, entryBy, stepOf, stepListed, entryListed}
 use Rattle.rows.specs.Rows.{addUp, rowOf}
 use Rattle.rows.specs.Posting.{names, newKeys, addEntry, addAll, passes, postRows}
@@ -26,5 +26,5 @@ use Rattle.demands.specs.Examples.{Example, answers, examples}
 
 -- Each example is answered as document 01 says.
 pub worked : map (λ (e : Example). answers (e .octets)) examples ≡ map (λ (e : Example). e .answers) examples
-unfolding values merge fits number octets run fitsIn item put times chain counted format runAt itemAt specs zeros putMarks flags marksOf flagsOf meets headerOf formats marksSpare layoutOf marksRefusal present items putItems recordOf putRec records blockOf putRecs putBlock specsAt itemsAt recordAt recordsAt readOf runOf restOf readListed takeBy stepBy entryBy stepOf stepListed entryListed typedRec rewriteOf addUp rowOf names newKeys addEntry addAll passes postRows ledgerOf rowsFrom allBelow keepsRules entriesFrom reportIn stepAt reportOf postOf
+unfolding values merge fits number octets run fitsIn item put times chain counted format runAt itemAt specs zeros putMarks flags marksOf flagsOf meets headerOf formats marksSpare layoutOf marksRefusal present items putItems recordOf putRec records blockOf putRecs putBlock specsAt itemsAt recordAt recordsAt readOf runOf restOf readListed takeBy stepBy entryBy stepOf stepListed entryListed startIn typedRec rewriteOf addUp rowOf names newKeys addEntry addAll passes postRows ledgerOf rowsFrom allBelow keepsRules entriesFrom reportIn stepAt reportOf postOf
 worked = refl

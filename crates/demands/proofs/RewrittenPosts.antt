@@ -14,7 +14,7 @@ use Rattle.octets.specs.Refusals.{noSuch}
 use Rattle.octets.proofs.Cases.{test}
 use Rattle.octets.specs.declared.output.Written.{Written}
 use Rattle.layouts.specs.Tables.{counter}
-use Rattle.layouts.specs.Categories.{category, known}
+use Rattle.layouts.specs.Categories.{category, known, entriesForm}
 use Rattle.layouts.specs.declared.form.Form.{Form}
 use Rattle.layouts.proofs.Before.{SameBefore}
 use Rattle.items.specs.Typed.{settled, counterOf}
@@ -39,7 +39,7 @@ use Rattle.blocks.proofs.BlockLaws.{headed}
 use Rattle.blocks.proofs.JoinLaws.{second-block}
 use Rattle.blocks.proofs.StepLaws.{entry-taken, entry-counter}
 use Rattle.blocks.proofs.SameAnswers.{block-alike, block-after-len}
-use Rattle.writing.specs.Same.{has, entriesForm, Same}
+use Rattle.writing.specs.Same.{has, Same}
 use Rattle.writing.proofs.ReadBackTheorems.{none-same}
 use Rattle.rows.specs.Posting as posting
 use Rattle.ledger.specs.Posts.{postOf}

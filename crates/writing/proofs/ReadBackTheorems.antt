@@ -24,7 +24,7 @@ use Rattle.items.specs.declared.typed.Place.{Place}
 use Rattle.items.proofs.Items.{itemOf}
 use Rattle.items.proofs.ReadBack.{typed-back}
 use Rattle.blocks.specs.Specification.{flags}
-use Rattle.blocks.specs.Marks.{marksOf, flagsOf}
+use Rattle.blocks.specs.Marks.{marksOf, flagsOf, marked}
 use Rattle.blocks.specs.Headers.{headerOf}
 use Rattle.blocks.specs.Records.{Rec}
 use Rattle.blocks.specs.Blocks.{all, blockOf}
@@ -41,7 +41,8 @@ use Rattle.blocks.specs.declared.cursor.Step.{Step}
 use Rattle.blocks.specs.declared.cursor.Found.{Found}
 use Rattle.blocks.proofs.WalkSteps.{by-known, table}
 use Rattle.blocks.proofs.BlockLaws.{category-number}
-use Rattle.blocks.proofs.TypedLaws.{field-form, groups-at}
+use Rattle.blocks.proofs.FormLaws.{field-form}
+use Rattle.blocks.proofs.TypedLaws.{groups-at}
 use Rattle.blocks.proofs.MeaningLaws.{made-item, means-read}
 use Rattle.blocks.proofs.BoundaryLaws.{read-filled, step-read}
 use Rattle.blocks.proofs.StepLaws.{entry-taken}
@@ -123,9 +124,9 @@ module _ (s : List ℕ) (t : Record) where
       go (suc n) e = values-at bs fs n ∙ ap (λ (g : Form). pick (getD bs n false) (traceOf s (itemIn t g)) []) (field-form fs f n e)
 
 -- no record has a mark for entries of another category
-other-none : (n : ℕ) → known n ≡ true → (m : ℕ) → getD (false ∷ flagsOf 32 m) (fieldFor (category n .fields) (otherForm n)) false ≡ false
+other-none : (n : ℕ) → known n ≡ true → (m : ℕ) → marked m (fieldFor (category n .fields) (otherForm n)) ≡ false
 other-none =
-    by-known (λ (n : ℕ). (m : ℕ) → getD (false ∷ flagsOf 32 m) (fieldFor (category n .fields) (otherForm n)) false ≡ false)
+    by-known (λ (n : ℕ). (m : ℕ) → marked m (fieldFor (category n .fields) (otherForm n)) ≡ false)
     (λ m. refl) (λ m. refl) (λ m. refl)
 
 -- entries have one form or the other, and their values are so many groups
@@ -206,7 +207,7 @@ module _ (s : List ℕ) (o : Octets s) (t : Record) (w : Fine s t) (small : t .m
   from = itemsFrom x len (category (t .category)) at
 
   abbrev pub back : Record
-  back = typedRec (category (t .category)) (recOf s t) from
+  back = typedRec x len (category (t .category)) (recOf s t) from
 
   pub back-step : stepOf x at ≡ Step.Taken back (record { at = next })
   back-step = step-read x (t .category) len (got-one .head) at next (recOf s t) (got-one .low) (got-one .more) (got-one .is)
@@ -227,7 +228,7 @@ module _ (s : List ℕ) (o : Octets s) (t : Record) (w : Fine s t) (small : t .m
 
   -- the item of a form, by its values: where its entries or content start
   abbrev placed-at : Form → Trace → ℕ
-  placed-at f tr = placeIn (startFor (category (t .category)) (recOf s t) from f) 0 tr .at
+  placed-at f tr = placeIn (startFor x len (category (t .category)) (recOf s t) from f) 0 tr .at
 
   back-item : (f : Form) → (f ≡ otherForm (t .category) → ⊥) → (b : Bool) → has t f ≡ b
       → let tr = pick b (traceOf s (itemIn t f)) [] in itemIn back f ≡ itemOf f tr (placed-at f tr)
@@ -236,7 +237,7 @@ module _ (s : List ℕ) (o : Octets s) (t : Record) (w : Fine s t) (small : t .m
       let c = category (t .category) in
       let r = recOf s t in
       let same : otherForm (c .number) ≡ otherForm (t .category) = ap otherForm (category-number (t .category)) in
-      made-item (c .number) (marksOf (flags (r .marks))) (valuesFor c r from) (startFor c r from) f (λ e. own (e ∙ same))
+      made-item (c .number) (marksOf (flags (r .marks))) (valuesFor c r) (startFor x len c r from) f (λ e. own (e ∙ same))
       ∙ ap (λ (tr : Trace). itemOf f tr (placed-at f tr)) (values-for s t f ∙ ap (λ (b : Bool). pick b (traceOf s (itemIn t f)) []) h)
 
   -- marked, it is the item that was given

@@ -31,7 +31,8 @@ use Rattle.blocks.specs.declared.record.Record.{Record}
 use Rattle.blocks.proofs.BlockLaws.{category-number}
 use Rattle.blocks.proofs.MarksLaws.{flags-32, mark-more, spare-more, specs-marked}
 use Rattle.blocks.proofs.ReadSteps.{record-parts}
-use Rattle.blocks.proofs.MeaningLaws.{Forms, forms, item-read, means-read}
+use Rattle.blocks.proofs.FormLaws.{Forms, forms}
+use Rattle.blocks.proofs.MeaningLaws.{item-read, means-read}
 use Rattle.blocks.proofs.WalkSteps.{Table, table}
 use Rattle.writing.specs.Judged.{orElse, itemsRefusal, fields, markedRefusal, recordRefusal, recordOctets}
 use Rattle.writing.specs.Judged as judged
@@ -83,7 +84,7 @@ module _ (s : List ℕ) (t : Record) where
 module _ (s : List ℕ) (len : ℕ) (c : Category) (w : Forms c) (gs : List ℕ) (trs : List Trace) (p q : ℕ)
     (few : length gs ≤ 4) (read : itemsAt s len (layoutOf c gs) p ≡ got trs q) where
   abbrev t : Record
-  t = typedRec c (record { marks = gs; items = trs }) p
+  t = typedRec s len c (record { marks = gs; items = trs }) p
 
   flags-are : judged.flags s t ≡ flags gs ++ replicate (32 - 7 * length gs) false
   unfolding typedRec
@@ -114,8 +115,8 @@ module _ (s : List ℕ) (len : ℕ) (c : Category) (w : Forms c) (gs : List ℕ)
 
 module _ (s : List ℕ) (len number : ℕ) (c : Category) (w : Forms c) (tab : Table number c) (at : ℕ) (o : Octets s) (fit : len ≤ length s)
     (k : known (c .number) ≡ true) where
-  judged-at : (r : Rec) (q : ℕ) → recordAt s len c at ≡ got r q → recOf s (typedRec c r (itemsFrom s len c at)) ≡ r
-      → recordRefusal s (typedRec c r (itemsFrom s len c at)) ≡ 0
+  judged-at : (r : Rec) (q : ℕ) → recordAt s len c at ≡ got r q → recOf s (typedRec s len c r (itemsFrom s len c at)) ≡ r
+      → recordRefusal s (typedRec s len c r (itemsFrom s len c at)) ≡ 0
   judged-at r q h means =
       let (p, e, e', z, y) = record-parts s len c at q r h in
       let m = specs-marked s len (c .most - 1) at (r .marks) p o e in
@@ -125,7 +126,7 @@ module _ (s : List ℕ) (len number : ℕ) (c : Category) (w : Forms c) (tab : T
 
 module _ (s : List ℕ) (len number at : ℕ) (o : Octets s) (fit : len ≤ length s) (k : known number ≡ true) where
   abbrev made : Rec → Record
-  made r = typedRec (category number) r (itemsFrom s len (category number) at)
+  made r = typedRec s len (category number) r (itemsFrom s len (category number) at)
 
   -- A record that was read is not refused.
   pub read-judged : (r : Rec) (q : ℕ) → recordAt s len (category number) at ≡ got r q

@@ -11,7 +11,7 @@ use Rattle.octets.specs.Choice.{pick}
 use Rattle.octets.specs.Numbers.{Octets}
 use Rattle.octets.specs.Refusals.{noSuch}
 use Rattle.octets.proofs.Cases.{test}
-use Rattle.layouts.specs.Categories.{category}
+use Rattle.layouts.specs.Categories.{category, entriesForm}
 use Rattle.blocks.specs.Specification.{flags}
 use Rattle.blocks.specs.Marks.{marksOf}
 use Rattle.blocks.specs.Records.{Rec}
@@ -30,7 +30,7 @@ use Rattle.blocks.proofs.MeaningLaws.{means-read}
 use Rattle.blocks.proofs.BoundaryLaws.{step-read}
 use Rattle.blocks.proofs.StepLaws.{entry-taken}
 use Rattle.blocks.proofs.StepLaws as steps
-use Rattle.writing.specs.Same.{has, entriesForm, Same}
+use Rattle.writing.specs.Same.{has, Same}
 use Rattle.writing.proofs.RecordWritten.{Fine, fine}
 use Rattle.writing.proofs.Reread.{read-judged}
 use Rattle.writing.proofs.ReadBackTheorems.{One, back, back-step, back-same, back-entry, back-found, none-same}
@@ -48,7 +48,7 @@ marks-below (b ∷ bs) = rw pow-suc (go b (marks-below bs))
 -- A record of a block, as a step hands it out
 module _ (s : List ℕ) (o : Octets s) (cat len at q : ℕ) (r : Rec) (a : One s cat len at q r) where
   abbrev there : Record
-  there = typedRec (category cat) r (itemsFrom s len (category cat) at)
+  there = typedRec s len (category cat) r (itemsFrom s len (category cat) at)
 
   abbrev head : Headed s cat len
   head = header-good s cat len (a .head)

@@ -16,8 +16,7 @@ returns-2 c =
     let k = c .before in
     let w = k .before .before .before in
     let z = w .before .before in
-    take-taken _ _ _ _ (z .pre .0) (λ j. w .before .shared-slice-known .given j .fits) (z .pre .1) (z .pre .2) _ _
-    (sym (k .before .walked2 .given .1) ∙ w .record-walk .ensures) _ (c .record-at .ensures)
+    take-taken _ _ _ _ (z .pre .0) _ _ (sym (k .before .walked2 .given .1) ∙ w .record-walk .ensures) _ (c .typed-record .ensures)
 
 pub take-spec : {M : Type 1} → statement M
 take-spec =
