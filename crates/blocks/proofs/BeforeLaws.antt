@@ -9,8 +9,8 @@ use Rattle.layouts.specs.Formats.{Answer, refused, got, Format}
 use Rattle.layouts.specs.Categories.{Category}
 use Rattle.layouts.proofs.Before.{SameBefore, item-before}
 use Rattle.blocks.specs.Records.{Rec}
-use Rattle.blocks.specs.Blocks.{Block, with}
-use Rattle.blocks.specs.Offsets.{specsAt, itemsAt, recordAt, firstAt, recordsAt}
+use Rattle.blocks.specs.Blocks.{Block, with, firstAt, recordsAt}
+use Rattle.blocks.specs.Offsets.{specsAt, itemsAt, recordAt}
 
 module _ (len : ℕ) (s t : List ℕ) (same : SameBefore len s t) where
   pub specs-before : (n at : ℕ) → specsAt s len n at ≡ specsAt t len n at
@@ -37,7 +37,7 @@ module _ (len : ℕ) (s t : List ℕ) (same : SameBefore len s t) where
   record-before c at = simp (specs-before (c .most - 1) at, items-before)
 
   first-before : (at : ℕ) (m : Answer ℕ Rec) (f g : ℕ → Block) → ((q : ℕ) → f q ≡ g q)
-      → firstAt s len at m f ≡ firstAt t len at m g
+      → firstAt at m f ≡ firstAt at m g
   first-before at (refused n) f g h = refl
   first-before at (got r q) f g h = ap (with r) (h q)
 

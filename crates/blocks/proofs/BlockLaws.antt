@@ -8,7 +8,7 @@ use native.Mathlib.Omega.{arith}
 use lib.Dec.{eqb}
 use lib.ListN.{length, getD, take, length-append}
 use lib.Seq.{take-at, drop-at}
-use borrow.Author.Tests.{ltb-true, ltb-false, eqb-true}
+use borrow.Author.Tests.{eqb-true}
 use Rattle.octets.specs.Choice.{pick}
 use Rattle.octets.specs.Numbers.{Octets, number, octets}
 use Rattle.octets.proofs.Numbers.{number-lt, number-octets, length-octets}
@@ -19,11 +19,13 @@ use Rattle.layouts.specs.Categories.{Category, cat23, cat65, cat242, known, cat
 use Rattle.layouts.proofs.Answers.{and-yes}
 use Rattle.layouts.proofs.Windows.{window, window-long}
 use Rattle.blocks.specs.Specification.{zeros, putMarks}
-use Rattle.blocks.specs.Records.{Rec, recordOf, good, putRec}
+use Rattle.blocks.specs.Records.{Rec, good, putRec}
 use Rattle.blocks.specs.Headers.{headerOf}
-use Rattle.blocks.specs.Blocks.{Block, wrong, all, with, first, records, blockFrom, blockOf, putRecs, allGood, putBlock}
+use Rattle.blocks.specs.Blocks.{Block, wrong, all, with, blockFrom, blockOf, putRecs, allGood, putBlock}
 use Rattle.blocks.specs.declared.header.Head.{Head}
 use Rattle.blocks.proofs.HeaderLaws.{header-cases, header-fits}
+use Rattle.blocks.proofs.Suffixes.{recordOf, first, records, records-step, records-none}
+use Rattle.blocks.proofs.WindowLaws.{records-at}
 use Rattle.blocks.proofs.RecordLaws.{record-held}
 use Rattle.blocks.proofs.RecordTheorems.{good-long, read-back, normal-short, rest-octets}
 
@@ -44,21 +46,10 @@ unfolding putRec
 record-some c r h = rw length-append (omega (arith, marks-some (r .marks) (omega (arith, good-long c r h))))
 
 module _ (len : ℕ) (c : Category) where
-  pub records-step : (n : ℕ) (s : List ℕ) → 0 < length s
-      → records (suc n) len c s ≡ first len (length s) (recordOf c s) (λ t. records n len c t)
-  unfolding records
-  records-step n [] h = absurd (omega arith)
-  records-step n (x ∷ s) h = refl
-
-  pub records-none : (n : ℕ) → records n len c [] ≡ all (c .number) []
-  unfolding records
-  records-none zero = refl
-  records-none (suc n) = refl
-
   pub records-put : (n : ℕ) (rs : List Rec) → allGood c rs ≡ true → length (putRecs c rs) ≤ n
       → records n len c (putRecs c rs) ≡ all (c .number) rs
   unfolding putRecs allGood
-  records-put n [] h l = records-none n
+  records-put n [] h l = records-none len c n
   records-put zero (r ∷ rs) h l =
       let (a, b) = both (good c r) (allGood c rs) h in
       absurd (omega (arith, record-some c r a, simp length-append at l))
@@ -66,7 +57,7 @@ module _ (len : ℕ) (c : Category) where
       let (a, b) = both (good c r) (allGood c rs) h in
       let l' : length (putRec c r) + length (putRecs c rs) ≤ suc n = rw length-append at l in
       let some : 0 < length (putRec c r ++ putRecs c rs) = rw length-append (omega (arith, record-some c r a)) in
-      records-step n (putRec c r ++ putRecs c rs) some
+      records-step len c n (putRec c r ++ putRecs c rs) some
       ∙ rw (read-back c r a (putRecs c rs), records-put n rs b (omega (arith, record-some c r a)))
 
 -- of a block: where all its records were read
@@ -143,7 +134,7 @@ module _ (cat : ℕ) (body t : List ℕ) (fit : 3 + length body < 65536) where
       let is-body : window s size 3 ≡ body = rw (take-at (head ++ body) t size long, drop-at head body 3 three) in
       let enough : size ≤ length s = rw (length-append, long) (omega arith) in
       let head-good : Head.Good cat size ≡ headerOf s = header-fits s (omega arith) k size (sym headed-len) (omega arith) enough in
-      rw (← head-good, is-body)
+      rw (← head-good) (sym (records-at s size enough (category cat) size 3) ∙ rw is-body)
 
 -- A block in normal form is read back, whatever stands behind it.
 module _ (cat : ℕ) (rs : List Rec) (t : List ℕ) where
@@ -179,7 +170,8 @@ block-sound s o =
     let c = category cat in
     header-cases s (λ h. OfAll (Sound s) (blockFrom s h)) (λ a. tt) (λ a b. tt) (λ a b d. tt) (λ a b d. tt) λ h.
     let long = window-long s len (h .fits) 3 in
-    weaker
+    subst (OfAll (Sound s)) (records-at s len (h .fits) c len 3)
+    (weaker
     (λ cat' rs w. subst (λ x. Sound s x rs) (sym (w .same ∙ category-number cat)) record {
       known = h .known;
       fine = w .fine;
@@ -187,7 +179,7 @@ block-sound s o =
       short = omega (arith, w .short, h .least);
     })
     (records len len c (window s len 3))
-    (records-filled len len c (window s len 3) (Octets-drop 3 (take len s) (Octets-take len s o)))
+    (records-filled len len c (window s len 3) (Octets-drop 3 (take len s) (Octets-take len s o))))
 
 -- A block in normal form: accepted, the same category and the same records, whatever stands behind it.
 pub block-normal : (s : List ℕ) (cat : ℕ) (rs : List Rec) → Octets s → blockOf s ≡ all cat rs

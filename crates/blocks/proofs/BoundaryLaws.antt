@@ -14,8 +14,8 @@ use Rattle.layouts.specs.Formats.{Answer, refused, got}
 use Rattle.layouts.specs.Categories.{Category, category}
 use Rattle.blocks.specs.Headers.{headerOf}
 use Rattle.blocks.specs.Records.{Rec}
-use Rattle.blocks.specs.Blocks.{Block, wrong, all, with, blockOf}
-use Rattle.blocks.specs.Offsets.{recordAt, firstAt, recordsAt}
+use Rattle.blocks.specs.Blocks.{Block, wrong, all, with, blockOf, firstAt, recordsAt}
+use Rattle.blocks.specs.Offsets.{recordAt}
 use Rattle.blocks.specs.Walks.{answerOf, readOf}
 use Rattle.blocks.specs.Typed.{typedRec}
 use Rattle.blocks.specs.Steps.{itemsFrom, takeBy, stepBy, stepOf}
@@ -29,7 +29,6 @@ use Rattle.blocks.specs.declared.cursor.Step.{Step}
 use Rattle.blocks.specs.declared.walk.Reading.{Reading}
 use Rattle.blocks.proofs.HeaderLaws.{header-good}
 use Rattle.blocks.proofs.BlockLaws.{category-number}
-use Rattle.blocks.proofs.WindowLaws.{records-at}
 use Rattle.blocks.proofs.ReadSteps.{record-within, records-end, records-one}
 use Rattle.blocks.proofs.MeaningLaws.{means-read}
 use Rattle.blocks.proofs.StepLaws.{step-took}
@@ -47,7 +46,7 @@ module _ (s : List ℕ) (len : ℕ) (c : Category) where
 
   module _ (o : Octets s) where
     found-first : (at : ℕ) → at < len → (f : ℕ → Block) → ((q : ℕ) → at < q → q ≤ len → Found q (f q))
-        → (m : Answer ℕ Rec) → recordAt s len c at ≡ m → Found at (firstAt s len at m f)
+        → (m : Answer ℕ Rec) → recordAt s len c at ≡ m → Found at (firstAt at m f)
     found-first at l f k (refused n) e = ([], refl, e, l)
     found-first at l f k (got r q) e =
         let (a, b) = record-within s len c o at q r e in
@@ -81,19 +80,19 @@ module _ (s : List ℕ) (cat len : ℕ) (h : headerOf s ≡ Head.Good cat len) w
   abbrev pub body : Block
   body = recordsAt s len (category cat) len 3
 
-  pub read-good : readOf s ≡ answerOf len body
-  unfolding readOf
-  read-good = rw h
-
   pub block-good : blockOf s ≡ body
   unfolding blockOf
-  block-good = rw h (records-at s len (header-good s cat len h .fits) (category cat) len 3)
+  block-good = rw h
+
+  pub read-good : readOf s ≡ answerOf len body
+  unfolding readOf
+  read-good = rw (block-good, ← header-good s cat len h .is-len)
 
   body-found : Octets s → Found s len (category cat) 3 body
   body-found o = let w = header-good s cat len h in found s len (category cat) o len 3 (omega arith) (omega arith)
 
 pub read-refused : (s : List ℕ) (n : ℕ) → headerOf s ≡ Head.Refused n → readOf s ≡ Reading.Refused n 0
-unfolding readOf
+unfolding readOf blockOf
 read-refused s n h = rw h
 
 pub not-accepted : {n at len count : ℕ} → Reading.Refused n at ≡ Reading.Accepted len count → ⊥

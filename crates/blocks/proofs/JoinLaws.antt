@@ -10,11 +10,13 @@ use Rattle.octets.specs.Choice.{odd}
 use Rattle.octets.specs.Numbers.{Octets}
 use Rattle.layouts.specs.Formats.{Answer, refused, got}
 use Rattle.layouts.specs.Categories.{Category, category, known}
-use Rattle.blocks.specs.Records.{Rec, layoutOf, putItems, recordOf}
-use Rattle.blocks.specs.Blocks.{Block, wrong, all, with, first, records, blockOf}
+use Rattle.blocks.specs.Records.{Rec, layoutOf, putItems}
+use Rattle.blocks.specs.Blocks.{Block, wrong, all, with, recordsAt, blockOf}
+use Rattle.blocks.proofs.Suffixes.{recordOf, first, records, records-step, records-none}
+use Rattle.blocks.proofs.WindowLaws.{records-whole}
 use Rattle.blocks.proofs.RecordLaws.{record-any, record-held}
 use Rattle.blocks.proofs.RecordTheorems.{normal-short, rest-octets, second-zero}
-use Rattle.blocks.proofs.BlockLaws.{record-some, records-step, records-none, category-number, headed, headed-read}
+use Rattle.blocks.proofs.BlockLaws.{record-some, category-number, headed, headed-read}
 
 record-behind : (c : Category) (u v y : List ℕ) (r : Rec) → Octets u → recordOf c u ≡ got r v → recordOf c (u ++ y) ≡ got r (v ++ y)
 record-behind c u v y r o h =
@@ -92,6 +94,12 @@ module _ (c : Category) (cat : ℕ) where
             rw is
             (reads-first len' ((x + 1) ∷ 0 ∷ b) v r us (omega arith) (second-zero c two x b even ∙ f) (omega arith)
             (reads-any n len len' v us (rest-octets c (x ∷ b) r v o f) w))
+
+-- Octets that are records and nothing else, by offsets: whatever the fuel that is enough, and wherever their block ends.
+pub whole-reads : (cat n : ℕ) (y : List ℕ) (ts : List Rec) → Octets y → recordsAt y (length y) (category cat) n 0 ≡ all cat ts
+    → (k len : ℕ) → length y ≤ k → records k len (category cat) y ≡ all cat ts
+whole-reads cat n y ts o e k len l =
+    reads-any (category cat) cat (category-number cat) n (length y) len y ts o (records-whole (category cat) n y ∙ e) k l
 
 -- A block in which one record, behind whole records a, has a second specification octet of zero has the records of the block without it.
 module _ (cat : ℕ) (k : known cat ≡ true) (two : 2 ≤ category cat .most) (a b : List ℕ) (x : ℕ) (o : Octets a) (o' : Octets (x ∷ b))

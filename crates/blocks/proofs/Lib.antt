@@ -1,9 +1,10 @@
 pub mod HeaderLaws
+pub mod Suffixes
 pub mod RecordLaws
 pub mod RecordTheorems
+pub mod WindowLaws
 pub mod BlockLaws
 pub mod JoinLaws
-pub mod WindowLaws
 pub mod BeforeLaws
 pub mod AlikeLaws
 pub mod MarksLaws

@@ -15,8 +15,8 @@ use Rattle.layouts.specs.Formats.{Answer, refused, got, Trace}
 use Rattle.layouts.specs.Categories.{Category}
 use Rattle.layouts.proofs.Answers.{pick-yes, through}
 use Rattle.blocks.specs.Records.{Rec, layoutOf, marksRefusal, present}
-use Rattle.blocks.specs.Blocks.{Block, wrong, all, with}
-use Rattle.blocks.specs.Offsets.{specsAt, itemsAt, recordAt, firstAt, recordsAt}
+use Rattle.blocks.specs.Blocks.{Block, wrong, all, with, firstAt, recordsAt}
+use Rattle.blocks.specs.Offsets.{specsAt, itemsAt, recordAt}
 use Rattle.blocks.specs.Walks.{onward, runOf, answerOf}
 use Rattle.blocks.specs.declared.walk.Walked.{Walked}
 use Rattle.blocks.specs.declared.walk.Walked.the-variants as walked
@@ -80,7 +80,7 @@ module _ (s : List ℕ) (len : ℕ) (c : Category) where
   records-end (suc m) at h = rw (le-leb len at h)
 
   pub records-one : (m k at : ℕ) → m ≡ suc k → at < len
-      → recordsAt s len c m at ≡ firstAt s len at (recordAt s len c at) (λ q. recordsAt s len c k q)
+      → recordsAt s len c m at ≡ firstAt at (recordAt s len c at) (λ q. recordsAt s len c k q)
   unfolding recordsAt
   records-one m k at e h = rw (e, lt-leb len at h)
 

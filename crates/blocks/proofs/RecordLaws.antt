@@ -13,12 +13,14 @@ use Rattle.octets.specs.Choice.{pick, odd}
 use Rattle.octets.specs.Numbers.{Octets}
 use Rattle.octets.specs.Refusals.{presenceBroken}
 use Rattle.octets.proofs.Cases.{both}
-use Rattle.layouts.specs.Formats.{Answer, got, andThen, Format, Trace, fitsIn, item, put}
+use Rattle.layouts.specs.Formats.{Answer, got, andThen, Format, Trace, fitsIn, put}
 use Rattle.layouts.specs.Categories.{Category}
 use Rattle.layouts.proofs.Answers.{and-yes, through, pick-no, pick-yes, got-refused, OfGot}
+use Rattle.layouts.proofs.Suffixes.{item}
 use Rattle.layouts.proofs.Formats.{Was, item-put, item-was}
-use Rattle.blocks.specs.Specification.{specs, zeros, putMarks}
-use Rattle.blocks.specs.Records.{Rec, layoutOf, marksRefusal, present, items, itemsFit, putItems, recordOf, good}
+use Rattle.blocks.specs.Specification.{zeros, putMarks}
+use Rattle.blocks.specs.Records.{Rec, layoutOf, marksRefusal, present, itemsFit, putItems, good}
+use Rattle.blocks.proofs.Suffixes.{specs, items, recordOf}
 
 -- The specification
 

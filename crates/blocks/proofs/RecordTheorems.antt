@@ -14,8 +14,9 @@ use Rattle.octets.proofs.Cases.{both}
 use Rattle.layouts.specs.Formats.{got, Format, Trace}
 use Rattle.layouts.specs.Categories.{Category}
 use Rattle.layouts.proofs.Formats.{put-length}
-use Rattle.blocks.specs.Specification.{specs, putMarks}
-use Rattle.blocks.specs.Records.{Rec, layoutOf, putItems, recordOf, good, putRec}
+use Rattle.blocks.specs.Specification.{putMarks}
+use Rattle.blocks.specs.Records.{Rec, layoutOf, putItems, good, putRec}
+use Rattle.blocks.proofs.Suffixes.{specs, recordOf}
 use Rattle.blocks.proofs.RecordLaws.{Octets-tail, specs-put, record-any, record-held}
 
 pub good-long : (c : Category) (r : Rec) → good c r ≡ true → length (r .marks) ≡ suc (c .most - 1)

@@ -13,9 +13,9 @@ use Rattle.layouts.specs.Categories.{Category, category}
 use Rattle.layouts.proofs.Before.{SameBefore}
 use Rattle.blocks.specs.Headers.{headerOf}
 use Rattle.blocks.specs.Records.{Rec, layoutOf}
-use Rattle.blocks.specs.Blocks.{with, blockOf}
-use Rattle.blocks.specs.Offsets.{recordAt, firstAt, recordsAt}
-use Rattle.blocks.specs.Walks.{answerOf, readFrom, readOf}
+use Rattle.blocks.specs.Blocks.{with, firstAt, recordsAt, blockFrom, blockOf}
+use Rattle.blocks.specs.Offsets.{recordAt}
+use Rattle.blocks.specs.Walks.{readOf}
 use Rattle.blocks.specs.Typed.{startIn, typedRec}
 use Rattle.blocks.specs.Steps.{itemsFrom, takenBy, takeBy, stepFrom, stepBy, stepOf, entryValues, entryGroupOf, entryFrom, foundOf, entryBy, entryOf}
 use Rattle.blocks.specs.Alike.{IfGot, AllAlikeAt, RecordAlikeAt, RecordsAlikeAt}
@@ -30,7 +30,6 @@ use Rattle.blocks.proofs.BeforeLaws.{specs-before, record-before, recor
 use Rattle.blocks.proofs.AlikeLaws.{record-alike-at}
 use Rattle.blocks.proofs.ReadSteps.{record-parts}
 use Rattle.blocks.proofs.ItemStarts.{start-before, start-alike}
-use Rattle.blocks.proofs.BoundaryLaws.{block-good}
 use Rattle.blocks.proofs.TypedLaws.{entry-values}
 use Rattle.blocks.proofs.StepLaws.{Took, step-took, ofStep, by-step}
 
@@ -127,35 +126,30 @@ module _ (s t : List ℕ) (first : (i : ℕ) → i < 3 → getD s i 0 ≡ getD t
   good-len : (cat len : ℕ) → headerOf s ≡ Head.Good cat len → len ≡ number 2 s 1
   good-len cat len e = header-good s cat len e .is-len
 
-  read-same : ((cat len : ℕ) → headerOf s ≡ Head.Good cat len → recordsAt s len (category cat) len 3 ≡ recordsAt t len (category cat) len 3)
-      → readOf s ≡ readOf t
-  unfolding readOf
-  read-same h = go (headerOf s) refl ∙ ap (readFrom t) same-header
-    where
-      go : (x : Head) → headerOf s ≡ x → readFrom s x ≡ readFrom t x
-      go (head.Refused n) e = refl
-      go (head.Good cat len) e = ap (answerOf len) (h cat len e)
-
-  -- and the block has the same records
+  -- where the records are the same, the block is, and what is read
   block-same : ((cat len : ℕ) → headerOf s ≡ Head.Good cat len → recordsAt s len (category cat) len 3 ≡ recordsAt t len (category cat) len 3)
       → blockOf s ≡ blockOf t
   unfolding blockOf
-  block-same h = go (headerOf s) refl
+  block-same h = go (headerOf s) refl ∙ ap (blockFrom t) same-header
     where
-      go : (x : Head) → headerOf s ≡ x → blockOf s ≡ blockOf t
-      go (head.Refused n) e = rw (e, ← same-header, e)
-      go (head.Good cat len) e = block-good s cat len e ∙ h cat len e ∙ sym (block-good t cat len (sym same-header ∙ e))
+      go : (x : Head) → headerOf s ≡ x → blockFrom s x ≡ blockFrom t x
+      go (head.Refused n) e = refl
+      go (head.Good cat len) e = h cat len e
+
+  read-same : blockOf s ≡ blockOf t → readOf s ≡ readOf t
+  unfolding readOf
+  read-same e = rw (same-len, e)
 
   -- Octets after LEN are not read.
   module _ (before : SameBefore (number 2 s 1) s t) where
     before-len : (cat len : ℕ) → headerOf s ≡ Head.Good cat len → SameBefore len s t
     before-len cat len e = rw (good-len cat len e) before
 
-    pub read-after-len : readOf s ≡ readOf t
-    read-after-len = read-same (λ cat len e. records-before len s t (before-len cat len e) (category cat) len 3)
-
     pub block-after-len : blockOf s ≡ blockOf t
     block-after-len = block-same (λ cat len e. records-before len s t (before-len cat len e) (category cat) len 3)
+
+    pub read-after-len : readOf s ≡ readOf t
+    read-after-len = read-same block-after-len
 
     after-len : (start : ℕ) → SameRecord s t start
     after-len start = record {
@@ -181,15 +175,16 @@ module _ (s t : List ℕ) (first : (i : ℕ) → i < 3 → getD s i 0 ≡ getD t
     where
       go : (a : Answer ℕ Rec) → ((q : ℕ) → RecordsAlikeAt s t len c n q → recordsAt s len c n q ≡ recordsAt t len c n q)
           → IfGot a (λ r q. RecordsAlikeAt s t len c n q)
-          → firstAt s len at a (λ q. recordsAt s len c n q) ≡ firstAt t len at a (λ q. recordsAt t len c n q)
+          → firstAt at a (λ q. recordsAt s len c n q) ≡ firstAt at a (λ q. recordsAt t len c n q)
       go (refused m) ih k = refl
       go (got r q) ih k = ap (with r) (ih q k)
 
-  pub read-alike : ((cat len : ℕ) → headerOf s ≡ Head.Good cat len → RecordsAlikeAt s t len (category cat) len 3) → readOf s ≡ readOf t
-  read-alike h = read-same (λ cat len e. records-alike len (category cat) len 3 (h cat len e))
+  module _ (h : (cat len : ℕ) → headerOf s ≡ Head.Good cat len → RecordsAlikeAt s t len (category cat) len 3) where
+    pub block-alike : blockOf s ≡ blockOf t
+    block-alike = block-same (λ cat len e. records-alike len (category cat) len 3 (h cat len e))
 
-  pub block-alike : ((cat len : ℕ) → headerOf s ≡ Head.Good cat len → RecordsAlikeAt s t len (category cat) len 3) → blockOf s ≡ blockOf t
-  block-alike h = block-same (λ cat len e. records-alike len (category cat) len 3 (h cat len e))
+    pub read-alike : readOf s ≡ readOf t
+    read-alike = read-same block-alike
 
   module _ (start : ℕ) (h : (cat len : ℕ) → headerOf s ≡ Head.Good cat len → RecordAlikeAt s t len (category cat) start) where
     alike : SameRecord s t start

@@ -10,8 +10,8 @@ use Rattle.octets.specs.Numbers.{Octets}
 use Rattle.layouts.specs.Formats.{refused}
 use Rattle.layouts.specs.Categories.{Category, category}
 use Rattle.blocks.specs.Records.{Rec}
-use Rattle.blocks.specs.Blocks.{wrong}
-use Rattle.blocks.specs.Offsets.{recordAt, recordsAt}
+use Rattle.blocks.specs.Blocks.{wrong, recordsAt}
+use Rattle.blocks.specs.Offsets.{recordAt}
 use Rattle.blocks.specs.Walks.{answerOf, readOf}
 use Rattle.blocks.specs.Boundaries.{Joined, Stopped}
 use Rattle.blocks.specs.declared.walk.Reading.{Reading}

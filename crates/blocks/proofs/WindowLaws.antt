@@ -6,17 +6,17 @@ use Prim.Native.Nat.{ℕ, zero, suc, _+_, _-_, _≤_}
 use native.Mathlib.Omega.{arith}
 use lib.Dec.{leb, eqb}
 use lib.ListN.{length, getD}
+use lib.Seq.{take-length}
 use borrow.Author.Tests.{leb-true, leb-false}
 use Rattle.octets.specs.Choice.{pick, odd}
 use Rattle.layouts.specs.Formats.{Answer, refused, got, Format}
 use Rattle.layouts.specs.Offsets.{itemAt}
 use Rattle.layouts.specs.Categories.{Category}
 use Rattle.layouts.proofs.Windows.{window, behind, behind-then, behind-pick, window-none, window-cons, window-long, item-at}
-use Rattle.blocks.specs.Specification.{specs}
-use Rattle.blocks.specs.Records.{Rec, layoutOf, marksRefusal, present, items, recordOf}
-use Rattle.blocks.specs.Blocks.{Block, wrong, all, with, first, records}
-use Rattle.blocks.specs.Offsets.{specsAt, itemsAt, recordAt, firstAt, recordsAt}
-use Rattle.blocks.proofs.BlockLaws.{records-step}
+use Rattle.blocks.specs.Records.{Rec, layoutOf, marksRefusal, present}
+use Rattle.blocks.specs.Blocks.{Block, wrong, all, with, firstAt, recordsAt}
+use Rattle.blocks.specs.Offsets.{specsAt, itemsAt, recordAt}
+use Rattle.blocks.proofs.Suffixes.{specs, items, recordOf, first, records, records-step}
 
 behind-choice : {A : Type 0} (s : List ℕ) (len : ℕ) (b : Bool) (k l : Answer (List ℕ) A) (m n : Answer ℕ A)
     → k ≡ behind s len m → l ≡ behind s len n → pick b k l ≡ behind s len (pick b m n)
@@ -59,7 +59,7 @@ module _ (s : List ℕ) (len : ℕ) (fit : len ≤ length s) where
       refl)
 
   first-at : (at left : ℕ) (m : Answer ℕ Rec) (f : List ℕ → Block) (g : ℕ → Block) → len - left ≡ at
-      → ((q : ℕ) → f (window s len q) ≡ g q) → first len left (behind s len m) f ≡ firstAt s len at m g
+      → ((q : ℕ) → f (window s len q) ≡ g q) → first len left (behind s len m) f ≡ firstAt at m g
   first-at at left (refused n) f g e h = ap (wrong n) e
   first-at at left (got r q) f g e h = ap (with r) (h q)
 
@@ -74,10 +74,14 @@ module _ (s : List ℕ) (len : ℕ) (fit : len ≤ length s) where
     where
       go : (b : Bool) → leb len at ≡ b → ((q : ℕ) → records n len c (window s len q) ≡ recordsAt s len c n q)
           → records (suc n) len c (window s len at)
-          ≡ pick b (all (c .number) []) (firstAt s len at (recordAt s len c at) (λ q. recordsAt s len c n q))
+          ≡ pick b (all (c .number) []) (firstAt at (recordAt s len c at) (λ q. recordsAt s len c n q))
       go true e ih = rw (window-none s len fit at (leb-true len at e))
       go false e ih =
           let l = leb-false len at e in
           let long = window-long s len fit at in
           records-step len c n (window s len at) (omega arith)
           ∙ rw (record-at c at) (first-at at (length (window s len at)) (recordAt s len c at) _ _ (omega arith) ih)
+
+-- Octets that are records and nothing else, from their first to their last
+pub records-whole : (c : Category) (n : ℕ) (s : List ℕ) → records n (length s) c s ≡ recordsAt s (length s) c n 0
+records-whole c n s = rw take-length at (records-at s (length s) (omega arith) c n 0)

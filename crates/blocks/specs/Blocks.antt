@@ -1,15 +1,18 @@
 -- A block: CAT, LEN, and records that fill it (01 "Block and field specification").
 use mathlib.Core.Bool.{Bool, true, _&&_}
 use mathlib.Core.List.{List, [], _∷_, _++_}
-use Prim.Native.Nat.{ℕ, zero, suc, _+_, _-_}
-use lib.ListN.{length, take, drop}
+use Prim.Native.Nat.{ℕ, zero, suc, _+_}
+use lib.Dec.{leb}
+use lib.ListN.{length}
+use Rattle.octets.specs.Choice.{pick}
 use Rattle.octets.specs.Numbers.{octets}
 use Rattle.layouts.specs.Formats.{Answer, refused, got}
 use Rattle.layouts.specs.Categories.{Category, category}
 use Rattle.blocks.specs.Headers.{headerOf}
 use Rattle.blocks.specs.declared.header.Head.{Head}
 use Rattle.blocks.specs.declared.header.Head.the-variants.{Good, Refused}
-use Rattle.blocks.specs.Records.{Rec, recordOf, good, putRec}
+use Rattle.blocks.specs.Records.{Rec, good, putRec}
+use Rattle.blocks.specs.Offsets.{recordAt}
 
 -- a refusal number and the offset of the faulty record's first octet; or the category's number and the records
 pub data Block : Type 0 where
@@ -20,22 +23,24 @@ abbrev pub with : Rec → Block → Block
 with r (wrong n at) = wrong n at
 with r (all cat rs) = all cat (r ∷ rs)
 
--- the first record's answer and, where it is good, the others'; len is where the block ends
-abbrev pub first : ℕ → ℕ → Answer (List ℕ) Rec → (List ℕ → Block) → Block
-first len left (refused m) others = wrong m (len - left)
-first len left (got r t) others = with r (others t)
+-- the first record's answer, where it starts and, where it is good, the others'
+abbrev pub firstAt : ℕ → Answer ℕ Rec → (ℕ → Block) → Block
+firstAt at (refused m) others = wrong m at
+firstAt at (got r q) others = with r (others q)
 
--- the records that fill s, which are at most n octets
-unfoldable pub records : ℕ → ℕ → Category → List ℕ → Block
-records zero len c [] = all (c .number) []
-records zero len c (x ∷ s) = wrong 0 0
-records (suc n) len c [] = all (c .number) []
-records (suc n) len c (x ∷ s) = first len (length (x ∷ s)) (recordOf c (x ∷ s)) (λ t. records n len c t)
+-- the records from an offset on, at most n of them, which fill LEN exactly
+module _ (s : List ℕ) (len : ℕ) (c : Category) where
+  unfoldable pub recordsAt : ℕ → ℕ → Block
+  -- with octets left: never met where n is LEN, since a record has an octet at least (proofs/ReadSteps.antt `record-within`), and so no reader's answer
+  recordsAt zero at = pick (leb len at) (all (c .number) []) (wrong 0 0)
+  recordsAt (suc n) at =
+      let next = firstAt at (recordAt s len c at) (λ q. recordsAt n q) in
+      pick (leb len at) (all (c .number) []) next
 
 -- the header, and then record by record; octets after LEN are not read
 abbrev pub blockFrom : List ℕ → Head → Block
 blockFrom s (Refused n) = wrong n 0
-blockFrom s (Good cat len) = records len len (category cat) (drop 3 (take len s))
+blockFrom s (Good cat len) = recordsAt s len (category cat) len 3
 
 unfoldable pub blockOf : List ℕ → Block
 blockOf s = blockFrom s (headerOf s)

@@ -3,9 +3,9 @@ pub mod Specification
 pub mod Presence
 pub mod Marks
 pub mod Records
+pub mod Offsets
 pub mod Headers
 pub mod Blocks
-pub mod Offsets
 pub mod Walks
 pub mod Alike
 pub mod Typed

@@ -1,4 +1,4 @@
--- The same reading by offsets: at an offset of the octets lent, up to the block's end.
+-- Reading a record: at an offset of the octets lent, up to LEN (01 "Reading order").
 use mathlib.Core.List.{List, [], _∷_}
 use Prim.Native.Nat.{ℕ, zero, suc, _+_, _-_, _/_}
 use lib.Dec.{leb, eqb}
@@ -9,9 +9,9 @@ use Rattle.layouts.specs.Formats.{Answer, refused, got, andThen, Format, Trace}
 use Rattle.layouts.specs.Offsets.{itemAt}
 use Rattle.layouts.specs.Categories.{Category}
 use Rattle.blocks.specs.Records.{Rec, layoutOf, marksRefusal, present}
-use Rattle.blocks.specs.Blocks.{Block, wrong, all, with}
 
 module _ (s : List ℕ) (len : ℕ) where
+  -- the marks of at most n + 1 specification octets, seven to a number; an octet that is not there marks nothing
   unfoldable pub specsAt : ℕ → ℕ → Answer ℕ (List ℕ)
   specsAt zero at =
       let x = getD s at 0 in
@@ -22,10 +22,12 @@ module _ (s : List ℕ) (len : ℕ) where
       pick (leb len at) (refused passesEnd)
       (pick (odd x) (andThen next (λ gs q. got (x / 2 ∷ gs) q)) (got (x / 2 ∷ replicate (suc n) 0) (at + 1)))
 
+  -- items in field order, each to its end and then its values
   unfoldable pub itemsAt : List Format → ℕ → Answer ℕ (List Trace)
   itemsAt [] at = got [] at
   itemsAt (f ∷ fs) at = andThen (itemAt s len f at) (λ tr p. andThen (itemsAt fs p) (λ trs q. got (tr ∷ trs) q))
 
+  -- 7 and 4 at each specification octet, 6, 5, the items, 10
   unfoldable pub recordAt : Category → ℕ → Answer ℕ Rec
   recordAt c at =
       andThen (specsAt (c .most - 1) at)
@@ -33,14 +35,3 @@ module _ (s : List ℕ) (len : ℕ) where
       (andThen (itemsAt (layoutOf c gs) p)
       (λ trs q. pick (present c gs trs) (got (record { marks = gs; items = trs }) q) (refused presenceBroken)))
       (refused (marksRefusal c gs)))
-
-  abbrev pub firstAt : ℕ → Answer ℕ Rec → (ℕ → Block) → Block
-  firstAt at (refused m) others = wrong m at
-  firstAt at (got r q) others = with r (others q)
-
-  -- the records from an offset on, at most n of them
-  unfoldable pub recordsAt : Category → ℕ → ℕ → Block
-  recordsAt c zero at = pick (leb len at) (all (c .number) []) (wrong 0 0)
-  recordsAt c (suc n) at =
-      let next = firstAt at (recordAt c at) (λ q. recordsAt c n q) in
-      pick (leb len at) (all (c .number) []) next

@@ -5,14 +5,14 @@ use Prim.Native.Nat.{ℕ, suc, _-_}
 use lib.Dec.{eqb}
 use lib.ListN.{length, getD, drop}
 use Rattle.octets.specs.Choice.{pick}
-use Rattle.octets.specs.Refusals.{spareMarked, noneMarked, presenceBroken}
-use Rattle.layouts.specs.Formats.{Answer, refused, got, andThen, Format, done, Trace, item, fitsIn, put}
+use Rattle.octets.specs.Refusals.{spareMarked, noneMarked}
+use Rattle.layouts.specs.Formats.{Format, done, Trace, fitsIn, put}
 use Rattle.layouts.specs.Layouts.{isUnused, format}
 use Rattle.layouts.specs.Tables.{layout}
 use Rattle.layouts.specs.Categories.{Category}
 use Rattle.layouts.specs.declared.form.Form.{Form}
 use Rattle.blocks.specs.Forms.{formNumber}
-use Rattle.blocks.specs.Specification.{specs, zeros, putMarks, flags}
+use Rattle.blocks.specs.Specification.{zeros, putMarks, flags}
 use Rattle.blocks.specs.Marks.{flagsOf}
 use Rattle.blocks.specs.Presence.{rowsOf, meets}
 
@@ -67,11 +67,6 @@ typeOf c trs = typeIn 0 (c .fields) trs
 unfoldable pub present : Category → List ℕ → List Trace → Bool
 present c gs trs = meets (rowsOf (c .number)) (typeOf c trs) (flags gs)
 
--- items in field order, each to its end and then its values
-unfoldable pub items : List Format → List ℕ → Answer (List ℕ) (List Trace)
-items [] s = got [] s
-items (f ∷ fs) s = andThen (item f s) (λ tr r. andThen (items fs r) (λ trs q. got (tr ∷ trs) q))
-
 unfoldable pub itemsFit : List Format → List Trace → Bool
 itemsFit [] [] = true
 itemsFit [] (tr ∷ trs) = false
@@ -82,15 +77,6 @@ unfoldable pub putItems : List Format → List Trace → List (List ℕ) → Lis
 putItems [] trs xs = []
 putItems (f ∷ fs) [] xs = []
 putItems (f ∷ fs) (tr ∷ trs) xs = put f tr (getD xs 0 []) ++ putItems fs trs (drop 1 xs)
-
--- 7 and 4 at each specification octet, 6, 5, the items, 10 (01 "Reading order")
-unfoldable pub recordOf : Category → List ℕ → Answer (List ℕ) Rec
-recordOf c s =
-    andThen (specs (c .most - 1) s)
-    (λ gs r. pick (eqb (marksRefusal c gs) 0)
-    (andThen (items (layoutOf c gs) r)
-    (λ trs q. pick (present c gs trs) (got (record { marks = gs; items = trs }) q) (refused presenceBroken)))
-    (refused (marksRefusal c gs)))
 
 -- what a record must be to be written
 unfoldable pub good : Category → Rec → Bool

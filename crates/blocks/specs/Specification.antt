@@ -1,20 +1,9 @@
 -- The field specification (01 "Block and field specification"): each octet marks seven fields from the high bit, FX says that another follows.
 use mathlib.Core.Bool.{Bool, true, _&&_}
 use mathlib.Core.List.{List, [], _∷_}
-use Prim.Native.Nat.{ℕ, zero, suc, _*_, _+_, _/_}
+use Prim.Native.Nat.{ℕ, _*_, _+_, _/_}
 use lib.Dec.{eqb}
-use lib.ListN.{replicate}
 use Rattle.octets.specs.Choice.{pick, odd}
-use Rattle.octets.specs.Refusals.{longSpecification, passesEnd}
-use Rattle.layouts.specs.Formats.{Answer, refused, got, andThen}
-
--- the marks of at most n + 1 octets, seven to a number; an octet that is not there marks nothing
-unfoldable pub specs : ℕ → List ℕ → Answer (List ℕ) (List ℕ)
-specs n [] = refused passesEnd
-specs zero (x ∷ s) = pick (odd x) (refused longSpecification) (got (x / 2 ∷ []) s)
-specs (suc n) (x ∷ s) =
-    let next = specs n s in
-    pick (odd x) (andThen next (λ gs r. got (x / 2 ∷ gs) r)) (got (x / 2 ∷ replicate (suc n) 0) s)
 
 -- nothing is marked
 unfoldable pub zeros : List ℕ → Bool

@@ -8,15 +8,12 @@ use Rattle.octets.specs.Choice.{pick}
 use Rattle.octets.specs.Numbers.{number}
 use Rattle.octets.specs.Refusals.{presenceBroken}
 use Rattle.layouts.specs.Formats.{Answer, refused, got, Trace}
-use Rattle.layouts.specs.Categories.{Category, category}
+use Rattle.layouts.specs.Categories.{Category}
 use Rattle.layouts.specs.declared.form.Form.{Form}
 use Rattle.blocks.specs.Presence.{rowsOf, meets}
 use Rattle.blocks.specs.Records.{Rec, formats, typeIn}
 use Rattle.blocks.specs.Blocks.{Block, wrong, all, blockOf}
-use Rattle.blocks.specs.Offsets.{itemsAt, recordAt, recordsAt}
-use Rattle.blocks.specs.Headers.{headerOf}
-use Rattle.blocks.specs.declared.header.Head.{Head}
-use Rattle.blocks.specs.declared.header.Head.the-variants as head
+use Rattle.blocks.specs.Offsets.{itemsAt, recordAt}
 use Rattle.blocks.specs.declared.walk.Walked.{Walked}
 use Rattle.blocks.specs.declared.walk.Reading.{Reading}
 use Rattle.blocks.specs.declared.walk.Reading.the-variants as reading
@@ -50,13 +47,9 @@ abbrev pub answerOf : ℕ → Block → Reading
 answerOf len (wrong n at) = Reading.Refused n at
 answerOf len (all cat rs) = Reading.Accepted len (length rs)
 
--- the header, and then record by record (01 "Reading order")
-abbrev pub readFrom : List ℕ → Head → Reading
-readFrom s (head.Refused n) = Reading.Refused n 0
-readFrom s (head.Good cat len) = answerOf len (recordsAt s len (category cat) len 3)
-
+-- of the block's records; LEN stands behind CAT
 unfoldable pub readOf : List ℕ → Reading
-readOf s = readFrom s (headerOf s)
+readOf s = answerOf (number 2 s 1) (blockOf s)
 
 -- The answer's cases, with document 01's number and values: LEN 0 and count 0 where it is refused
 
@@ -76,7 +69,6 @@ abbrev pub listedReading : Reading → ReadListed
 listedReading (reading.Refused n at) = readRefused n at
 listedReading (reading.Accepted len count) = readAccepted len count
 
--- of the block's records as they fill LEN, each read from the octets that are left
 abbrev pub blockListed : ℕ → Block → ReadListed
 blockListed len (wrong n at) = readRefused n at
 blockListed len (all cat rs) = readAccepted len (length rs)

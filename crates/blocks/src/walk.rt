@@ -11,7 +11,7 @@ ghost use Rattle.layouts.specs.Categories.{category, known};
 ghost use Rattle.items.specs.Typed.{val};
 ghost use Rattle.blocks.specs.Marks.{flagsOf};
 ghost use Rattle.blocks.specs.Records.{numberRefusal, isType};
-ghost use Rattle.blocks.specs.Offsets.{recordsAt};
+ghost use Rattle.blocks.specs.Blocks.{recordsAt};
 ghost use Rattle.blocks.specs.Walks.{runOf, restOf, answerOf, readOf, listedReading, readListed};
 use crate::header::Head;
 use crate::header::header;

@@ -3,16 +3,16 @@ use mathlib.Core.Path.{_≡_, refl}
 use mathlib.Core.List.{map}
 use Rattle.octets.specs.Numbers.{number, octets}
 use Rattle.layouts.specs.Groups.{values, merge, fits}
-use Rattle.layouts.specs.Formats.{run, fitsIn, item, put}
+use Rattle.layouts.specs.Formats.{fitsIn, put}
 use Rattle.layouts.specs.Offsets.{runAt, itemAt}
 use Rattle.layouts.specs.Layouts.{times, chain, counted, format}
-use Rattle.blocks.specs.Specification.{specs, zeros, putMarks, flags}
+use Rattle.blocks.specs.Specification.{zeros, putMarks, flags}
 use Rattle.blocks.specs.Marks.{marksOf, flagsOf}
 use Rattle.blocks.specs.Presence.{meets}
 use Rattle.blocks.specs.Headers.{headerOf}
-use Rattle.blocks.specs.Records.{formats, marksSpare, layoutOf, marksRefusal, present, items, putItems, recordOf, putRec}
-use Rattle.blocks.specs.Blocks.{records, blockOf, putRecs, putBlock}
-use Rattle.blocks.specs.Offsets.{specsAt, itemsAt, recordAt, recordsAt}
+use Rattle.blocks.specs.Records.{formats, marksSpare, layoutOf, marksRefusal, present, putItems, putRec}
+use Rattle.blocks.specs.Blocks.{recordsAt, blockOf, putRecs, putBlock}
+use Rattle.blocks.specs.Offsets.{specsAt, itemsAt, recordAt}
 use Rattle.blocks.specs.Walks.{readOf, runOf, restOf, readListed}
 use Rattle.blocks.specs.Typed.{startIn, typedRec}
 use Rattle.blocks.specs.Steps.{takeBy, stepBy, entryBy, stepOf, stepListed, entryListed}
@@ -26,5 +26,5 @@ use Rattle.demands.specs.Examples.{Example, answers, examples}
 
 -- Each example is answered as document 01 says.
 pub worked : map (λ (e : Example). answers (e .octets)) examples ≡ map (λ (e : Example). e .answers) examples
-unfolding values merge fits number octets run fitsIn item put times chain counted format runAt itemAt specs zeros putMarks flags marksOf flagsOf meets headerOf formats marksSpare layoutOf marksRefusal present items putItems recordOf putRec records blockOf putRecs putBlock specsAt itemsAt recordAt recordsAt readOf runOf restOf readListed takeBy stepBy entryBy stepOf stepListed entryListed startIn typedRec rewriteOf addUp rowOf names newKeys addEntry addAll passes postRows ledgerOf rowsFrom allBelow keepsRules entriesFrom reportIn stepAt reportOf postOf
+unfolding values merge fits number octets fitsIn put times chain counted format runAt itemAt zeros putMarks flags marksOf flagsOf meets headerOf formats marksSpare layoutOf marksRefusal present putItems putRec blockOf putRecs putBlock specsAt itemsAt recordAt recordsAt readOf runOf restOf readListed takeBy stepBy entryBy stepOf stepListed entryListed startIn typedRec rewriteOf addUp rowOf names newKeys addEntry addAll passes postRows ledgerOf rowsFrom allBelow keepsRules entriesFrom reportIn stepAt reportOf postOf
 worked = refl

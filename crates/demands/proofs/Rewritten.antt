@@ -15,7 +15,8 @@ use Rattle.octets.proofs.Parts.{Octets-drop}
 use Rattle.layouts.specs.Categories.{category, known}
 use Rattle.blocks.specs.Headers.{headerOf}
 use Rattle.blocks.specs.Records.{Rec}
-use Rattle.blocks.specs.Blocks.{all, records, blockOf}
+use Rattle.blocks.specs.Blocks.{all, blockOf}
+use Rattle.blocks.proofs.Suffixes.{records}
 use Rattle.blocks.specs.Walks.{answerOf, readOf}
 use Rattle.blocks.specs.Boundaries.{Joined}
 use Rattle.blocks.specs.declared.header.Head.{Head}

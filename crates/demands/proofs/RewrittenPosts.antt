@@ -22,7 +22,8 @@ use Rattle.items.specs.declared.typed.Counter.{Counter}
 use Rattle.items.specs.declared.typed.Place.{Place}
 use Rattle.blocks.specs.Headers.{headerOf}
 use Rattle.blocks.specs.Records.{Rec}
-use Rattle.blocks.specs.Blocks.{Block, wrong, all, records, blockOf}
+use Rattle.blocks.specs.Blocks.{Block, wrong, all, blockOf}
+use Rattle.blocks.proofs.Suffixes.{records}
 use Rattle.blocks.specs.Alike.{RecordsAlikeAt}
 use Rattle.blocks.specs.Typed.{turn}
 use Rattle.blocks.specs.Steps.{stepOf, entryValues, entryIn, entryOf}

@@ -1,5 +1,6 @@
 pub mod Answers
 pub mod Groups
+pub mod Suffixes
 pub mod Formats
 pub mod Windows
 pub mod Alike

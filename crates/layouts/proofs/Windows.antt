@@ -16,8 +16,9 @@ use Rattle.octets.specs.Numbers.{number, laid}
 use Rattle.octets.specs.Refusals.{outOfRange}
 use Rattle.octets.proofs.Laying.{length-laid}
 use Rattle.layouts.specs.Groups.{values}
-use Rattle.layouts.specs.Formats.{Answer, refused, got, andThen, Format, done, stop, ask, Trace, run, fitsIn, item, put}
+use Rattle.layouts.specs.Formats.{Answer, refused, got, andThen, Format, done, stop, ask, Trace, fitsIn, put}
 use Rattle.layouts.specs.Offsets.{runAt, itemAt, traceAt}
+use Rattle.layouts.proofs.Suffixes.{run, item}
 use Rattle.layouts.proofs.Answers.{got-refused, pick-no, through}
 use Rattle.layouts.proofs.Formats.{run-put}
 

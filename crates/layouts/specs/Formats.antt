@@ -1,15 +1,12 @@
--- Formats: which group comes next, by the values before it. Reading by a format, and writing by it.
+-- Formats: which group comes next, by the values before it. What fits in a format, and writing by it; reading by it is in Offsets.antt.
 use mathlib.Core.Bool.{Bool, true, false, _&&_}
 use mathlib.Core.List.{List, [], _∷_, _++_}
 use Prim.Native.Nat.{ℕ}
-use lib.Dec.{ltb}
-use lib.ListN.{length, getD, drop}
-use Rattle.octets.specs.Choice.{pick}
-use Rattle.octets.specs.Numbers.{number, octets}
-use Rattle.octets.specs.Refusals.{passesEnd, outOfRange}
-use Rattle.layouts.specs.Groups.{values, merge, fits, Group}
+use lib.ListN.{getD, drop}
+use Rattle.octets.specs.Numbers.{octets}
+use Rattle.layouts.specs.Groups.{merge, fits, Group}
 
--- an answer of reading: a refusal number; or what was read, and what stands behind it (the octets there, or their offset)
+-- an answer of reading: a refusal number; or what was read, and what is behind it (its offset)
 pub data Answer (R A : Type 0) : Type 0 where
   refused : ℕ → Answer R A
   got : A → R → Answer R A
@@ -28,15 +25,6 @@ pub data Format : Type 0 where
 abbrev pub Trace : Type 0
 Trace = List (List ℕ)
 
--- where it ends: 7 and the format's own refusals, as they are met
-unfoldable pub run : Format → List ℕ → Answer (List ℕ) Trace
-run done s = got [] s
-run (stop n) s = refused n
-run (ask g k) s =
-    let v = values (g .parts) (number (g .wide) s 0) in
-    let next = run (k v) (drop (g .wide) s) in
-    pick (ltb (length s) (g .wide)) (refused passesEnd) (andThen next (λ tr r. got (v ∷ tr) r))
-
 -- values that lead the format to its end, each in range
 unfoldable pub fitsIn : Format → Trace → Bool
 fitsIn done [] = true
@@ -44,10 +32,6 @@ fitsIn done (v ∷ tr) = false
 fitsIn (stop n) tr = false
 fitsIn (ask g k) [] = false
 fitsIn (ask g k) (v ∷ tr) = fits (g .parts) v && fitsIn (k v) tr
-
--- an item: where it ends, and then its values (01 "Reading order")
-unfoldable pub item : Format → List ℕ → Answer (List ℕ) Trace
-item f s = andThen (run f s) (λ tr r. pick (fitsIn f tr) (got tr r) (refused outOfRange))
 
 -- the octets of an item, with the spare bits of the numbers xs, one for each group; without xs they are zero
 unfoldable pub put : Format → Trace → List ℕ → List ℕ

@@ -1,4 +1,4 @@
--- The same reading by offsets: at an offset of the octets lent, up to the block's end.
+-- Reading by a format: at an offset of the octets lent, up to the block's end.
 use mathlib.Core.List.{List, [], _∷_}
 use Prim.Native.Nat.{ℕ, zero, suc, _+_, _-_}
 use lib.Dec.{ltb}
@@ -12,6 +12,7 @@ use Rattle.layouts.specs.declared.ends.Kind.{Kind}
 use Rattle.layouts.specs.declared.ends.Kind.the-variants.{Spare, Fixed, Extended, Repeated, Explicit}
 
 module _ (s : List ℕ) (len : ℕ) where
+  -- where it ends: 7 and the format's own refusals, as they are met
   unfoldable pub runAt : Format → ℕ → Answer ℕ Trace
   runAt done at = got [] at
   runAt (stop n) at = refused n
@@ -20,6 +21,7 @@ module _ (s : List ℕ) (len : ℕ) where
       let next = runAt (k v) (at + g .wide) in
       pick (ltb (len - at) (g .wide)) (refused passesEnd) (andThen next (λ tr q. got (v ∷ tr) q))
 
+  -- an item: where it ends, and then its values (01 "Reading order")
   unfoldable pub itemAt : Format → ℕ → Answer ℕ Trace
   itemAt f at = andThen (runAt f at) (λ tr q. pick (fitsIn f tr) (got tr q) (refused outOfRange))
 

@@ -4,19 +4,17 @@ use mathlib.Core.List.{List}
 use Prim.Native.Nat.{ℕ}
 use native.Mathlib.Omega.{arith}
 use borrow.Author.Needs.{needs}
-use Rattle.blocks.specs.Headers.{headerOf}
-use Rattle.blocks.specs.Walks.{readFrom, readOf, listedReading, readListed}
-use Rattle.blocks.specs.declared.header.Head.{Head}
+use Rattle.blocks.specs.Walks.{readOf, listedReading, readListed}
 use Rattle.blocks.specs.declared.walk.Reading.{Reading}
 use Rattle.blocks.proofs.HeaderLaws.{header-good}
+use Rattle.blocks.proofs.BoundaryLaws.{read-refused, read-good}
 use Rattle.blocks.proofs.ListedLaws.{read-listed}
 use Rattle.blocks.proofs.walk.read.Statement.{statement}
 use Rattle.blocks.proofs.walk.read.Tie as tie
 
--- the answer that goes with a header, and its number and values
-read-by : (s : List ℕ) (h : Head) → h ≡ headerOf s → (r : Reading) → r ≡ readFrom s h → (r ≡ readOf s) × (listedReading r ≡ readListed s)
-unfolding readOf
-read-by s h e r k = let is : r ≡ readFrom s (headerOf s) = k ∙ ap (readFrom s) e in (is, ap listedReading is ∙ read-listed s)
+-- the answer, and its number and values
+read-by : (s : List ℕ) (r : Reading) → r ≡ readOf s → (r ≡ readOf s) × (listedReading r ≡ readListed s)
+read-by s r is = (is, ap listedReading is ∙ read-listed s)
 
 pub read-spec : {M : Type 1} → statement M
 read-spec =
@@ -31,7 +29,9 @@ read-spec =
     (omega (arith, w .least), w .fits, w .known))
     (λ c.
     let h = c .before .before .before in
-    read-by _ (Head.Refused (c .before .head .given .0 .0)) (sym (c .before .head .given .1) ∙ h .header .ensures) _ (search needs))
+    let e = sym (h .header .ensures) ∙ c .before .head .given .1 in
+    read-by _ _ (sym (read-refused _ _ e)))
     (λ c.
     let h = c .before .before .before .before in
-    read-by _ _ (sym (c .before .before .head2 .given .1) ∙ h .header .ensures) _ (c .read-records .ensures)))
+    let e = sym (h .header .ensures) ∙ c .before .before .head2 .given .1 in
+    read-by _ _ (c .read-records .ensures ∙ sym (read-good _ _ _ e))))
