@@ -3,8 +3,9 @@ use mathlib.Core.Bool.{Bool, _&&_}
 use mathlib.Core.List.{List}
 use Prim.Native.Nat.{ℕ, _+_, _*_}
 use lib.Dec.{eqb}
-use lib.ListN.{getD}
 use Rattle.octets.specs.Choice.{pick}
+use Rattle.layouts.specs.Categories.{cat23}
+use Rattle.items.specs.Typed.{counterOf}
 use Rattle.items.specs.declared.typed.Place.{Place}
 use Rattle.items.specs.declared.typed.Service.{Service}
 use Rattle.items.specs.declared.typed.Source.{Source}
@@ -17,7 +18,7 @@ use Rattle.blocks.specs.declared.statistics.Seen.{Seen}
 
 -- a statistics report (01 "Refusal numbers", 13): category 23 type 3, with 010 (field 1), 015 (field 3) and 120 (field 9)
 abbrev pub isReport : ℕ → ℕ → ℕ → Bool
-isReport category type marks = eqb category 23 && eqb type 3 && marked marks 1 && marked marks 3 && marked marks 9
+isReport category type marks = eqb category (cat23 .number) && eqb type 3 && marked marks 1 && marked marks 3 && marked marks 9
 
 abbrev pub isStatistics : Record → Bool
 isStatistics t = isReport (t .category) (t .«message_type») (t .marks)
@@ -37,11 +38,9 @@ statisticsOf t = numbersOf (t .source) (t .service) (t .entries)
 
 -- entry k of 23/120, of those that lie from an offset: TYPE, REF, count
 abbrev pub entryOf : List ℕ → ℕ → ℕ → Entry
-entryOf s at k = record {
-  typ = getD (entryValues s (entryGroupOf 23) at k) 0 0;
-  reference = getD (entryValues s (entryGroupOf 23) at k) 1 0;
-  count = getD (entryValues s (entryGroupOf 23) at k) 2 0;
-}
+entryOf s at k =
+    let c = counterOf (entryValues s (entryGroupOf (cat23 .number)) at k) in
+    record { typ = c .typ; reference = c .reference; count = c .count }
 
 -- of a record and the next start: a statistics report and its numbers, or another record
 abbrev pub seenOf : Record → ℕ → Seen

@@ -15,6 +15,7 @@ use items::item::counter_at;
 use items::item::version_at;
 use items::typed::Counter;
 use items::typed::Version;
+use layouts::category::Cat23;
 use layouts::category::Cat242;
 use octets::refusal;
 
@@ -90,10 +91,10 @@ fn entry_in(s: &[u8], category: u8, at: usize, count: usize, k: usize) -> Found
         return Found::Refused(refusal::NO_SUCH, 0);
     }
     if category == Cat242::NUMBER {
-        let version = version_at(s, at + k * 3);
+        let version = version_at(s, at + k * Cat242::ENTRY);
         return Found::Version(version);
     }
-    let counter = counter_at(s, at + k * 6);
+    let counter = counter_at(s, at + k * Cat23::ENTRY);
     Found::Counter(counter)
 }
 

@@ -2,9 +2,9 @@
 ghost use mathlib.Core.Path.{_≡_};
 ghost use Prim.Native.Nat.{_+_, _*_, _≤_, _<_};
 ghost use lib.ListN.{length};
-ghost use Rattle.octets.specs.Numbers.{number};
+ghost use Rattle.layouts.specs.Categories.{cat23};
 ghost use Rattle.blocks.specs.Statistics.{isReport, isStatistics, numbersOf, statisticsOf, seenOf, entryOf};
-ghost use Rattle.blocks.specs.Steps.{takeOf};
+ghost use Rattle.blocks.specs.Steps.{takeOf, entryGroupOf};
 ghost use Rattle.blocks.specs.declared.cursor.Cursor.{Cursor};
 ghost use Rattle.blocks.specs.declared.cursor.Step.{Step};
 ghost use Rattle.blocks.specs.declared.record.Record.{Record};
@@ -12,6 +12,7 @@ use crate::marks::is_marked;
 use crate::record::Record;
 use crate::record::start_of;
 use crate::record::starts_at;
+use items::item::counter_at;
 use items::item::octet_at;
 use items::item::place_at;
 use items::item::service_at;
@@ -37,7 +38,7 @@ pub enum Seen {
     Other(usize),
 }
 
-// An entry of 23/120: TYPE, REF and count.
+// An entry of 23/120 as the ledger has it, whose crate cannot name the items' type: TYPE, REF and count.
 pub struct Entry {
     pub typ: u8,
     pub reference: u8,
@@ -90,31 +91,16 @@ pub fn statistics_of(record: Record) -> Statistics
     numbers_of(source, service, entries)
 }
 
-// The number that four octets spell.
-fn joined(a: u8, b: u8, c: u8, d: u8) -> u32
-    ensures { λ r. ⌜ r ≡ a * 16777216 + b * 65536 + c * 256 + d ⌝ }
-{
-    a as u32 * 16777216 + b as u32 * 65536 + c as u32 * 256 + d as u32
-}
-
-// The number of four octets of a slice.
-fn word(s: &[u8], p: usize) -> u32
-    requires { ⌜ p + 4 ≤ length (now s) ⌝ }
-    ensures { λ r. ⌜ r ≡ number 4 (now (s .entry)) p ⌝ }
-{
-    joined(s[p], s[p + 1], s[p + 2], s[p + 3])
-}
-
 // Entry k of those that lie from an offset. Only for the next layer: it lies in the slice.
 pub fn counter(s: &[u8], at: usize, k: usize) -> Entry
-    requires { ⌜ at + k * 6 + 6 ≤ length (now s) ⌝ }
+    requires { ⌜ at + k * entryGroupOf (cat23 .number) .wide + entryGroupOf (cat23 .number) .wide ≤ length (now s) ⌝ }
     ensures { λ r. ⌜ r ≡ entryOf (now (s .entry)) at k ⌝ }
 {
-    let p = at + k * 6;
+    let entry = counter_at(s, at + k * Cat23::ENTRY);
     Entry {
-        typ: s[p],
-        reference: s[p + 1] / 128,
-        count: word(s, p + 2),
+        typ: entry.typ,
+        reference: entry.reference,
+        count: entry.count,
     }
 }
 
@@ -122,7 +108,7 @@ pub fn counter(s: &[u8], at: usize, k: usize) -> Entry
 // layer, which judges a block once; what a step takes there is what is seen.
 pub fn see(s: &[u8], len: usize, at: usize) -> Seen
     requires { ⌜ (at < len) × (len ≤ length (now s)) ⌝ }
-    ensures { λ r. ⌜ ((t : Record) → (c : Cursor) → takeOf (now (s .entry)) len 23 at ≡ Step.Taken t c → r ≡ seenOf t (c .at)) ⌝ }
+    ensures { λ r. ⌜ ((t : Record) → (c : Cursor) → takeOf (now (s .entry)) len (cat23 .number) at ≡ Step.Taken t c → r ≡ seenOf t (c .at)) ⌝ }
 {
     let starts = starts_at(s, len, Cat23::NUMBER, at);
     let items = starts.items;
