@@ -104,7 +104,7 @@ module _ (s : List ℕ) (len : ℕ) where
         let few : length gs ≤ 4 = omega (arith, w .long) in
         let long : length (flags gs) ≤ 14 = omega (arith, w .long, flags-long gs) in
         let mark = mark-is s len cat23 gs p trs next o fit (w .within) few long e' in
-        let none = marks-given-0 s len 1 at gs p o e cat23 .0 (eqb-true (marksRefusal cat23 gs) 0 z) .1 in
+        let none = marks-given-0 gs cat23 .0 (eqb-true (marksRefusal cat23 gs) 0 z) .1 in
         let off : (n : ℕ) → isUnused (layoutAt cat23 (suc n)) ≡ true → getD (flags gs) n false ≡ false
         = λ n u. test (getD (flags gs) n false) (λ m. absurd (none (suc n, m, u))) (λ m. m) in
         record {
