@@ -3,27 +3,27 @@ use mathlib.Core.Path.{_≡_, refl, sym, ap, ap₂, _∙_, subst}
 use mathlib.Core.Bool.{Bool, true, false, _&&_, not}
 use mathlib.Core.List.{List, [], _∷_, _++_}
 use Prim.Native.Nat.{ℕ, zero, suc, _+_, _-_, _*_, _/_, _%_, _^_, _≤_, _<_, min}
-use native.Mathlib.Nat.{zero-mul, zero-add, suc-add, add-zero, mod-eq-of-lt, div-one, div-div-eq-div-mul, pow-succ', div-lt-iff-lt-mul}
+use native.Mathlib.Nat.{zero-mul, zero-add, suc-add, add-zero, div-one, div-div-eq-div-mul, pow-suc, pow-succ'}
 use native.Mathlib.Omega.{arith}
 use borrow.Author.Tests.{leb-false, eqb-true, eqb-false, eq-eqb, ne-eqb}
 use lib.Bits.{bitAnd, and-step}
-use lib.Dec.{leb, eqb, lit<, eqb·suc-zero}
+use lib.Dec.{leb, eqb}
 use lib.ListN.{length, getD, replicate, length-replicate}
 use Rattle.octets.specs.Choice.{pick, odd}
 use Rattle.octets.specs.Numbers.{Octets}
-use Rattle.octets.specs.Refusals.{longSpecification}
+use Rattle.octets.specs.Refusals.{longSpecification, spareMarked, noneMarked}
 use Rattle.octets.proofs.Cases.{test, choose}
 use Rattle.layouts.specs.Formats.{Answer, refused, got, andThen}
 use Rattle.layouts.specs.Ends.{endOf, chainEnd}
+use Rattle.layouts.specs.Categories.{Category}
 use Rattle.layouts.specs.declared.form.Form.{Form}
 use Rattle.layouts.proofs.Answers.{OfGot, of-pick}
 use Rattle.layouts.proofs.KindEnds.{none-left, end-then}
-use Rattle.blocks.specs.Specification.{zeros, flags}
+use Rattle.blocks.specs.Specification.{flags}
 use Rattle.blocks.specs.Presence.{Row, meets}
 use Rattle.blocks.specs.Marks.{marksOf, flagsOf, groupsOf}
-use Rattle.blocks.specs.Records.{formats, marksSpare}
+use Rattle.blocks.specs.Records.{formats, marksSpare, unmarked, flagsRefusal, numberRefusal}
 use Rattle.blocks.specs.Offsets.{specsAt}
-use Rattle.blocks.proofs.RecordLaws.{zeros-replicate}
 
 -- a mark as a number is the low bit that it tests
 pub bit : (x : ℕ) → pick (odd x) 1 0 ≡ x % 2
@@ -67,6 +67,24 @@ same-marks true false x y = ne-eqb (1 + x * 2) (0 + y * 2) (λ e. omega arith)
 same-marks false true x y = ne-eqb (0 + x * 2) (1 + y * 2) (λ e. omega arith)
 same-marks false false x y = same-test (0 + x * 2) (0 + y * 2) x y (λ e. omega arith) (λ e. omega arith)
 
+-- no field is marked where the number of the marks is 0, and of marks in a number where it is
+pub none-marks : (bs : List Bool) → unmarked bs ≡ eqb (marksOf bs) 0
+unfolding unmarked marksOf
+none-marks [] = refl
+none-marks (b ∷ bs) = rw (none-marks bs) (sym (same-marks b false (marksOf bs) 0))
+
+none-flags : (n m : ℕ) → m < 2 ^ n → unmarked (flagsOf n m) ≡ eqb m 0
+unfolding unmarked flagsOf
+none-flags zero m l = sym (eq-eqb m 0 (omega arith))
+none-flags (suc n) m l =
+    let whole : pick (odd m) 1 0 + m / 2 * 2 ≡ m = omega (arith, bit m) in
+    rw (none-flags n (m / 2) (omega (arith, pow-suc 2 n))) (sym (same-marks (odd m) false (m / 2) 0) ∙ ap (λ (k : ℕ). eqb k 0) whole)
+
+-- so 6 is tested on the number
+pub number-refusal : (c : Category) (m : ℕ) → m < 4294967296
+    → numberRefusal c m ≡ pick (eqb m 0) noneMarked (pick (marksSpare (flagsOf 32 m) (c .fields)) spareMarked 0)
+number-refusal c m l = rw (none-flags 32 m l)
+
 -- the marks that two numbers have in common: the first, and the others
 pub common : (m k : ℕ) → bitAnd m k ≡ pick (odd m && odd k) 1 0 + bitAnd (m / 2) (k / 2) * 2
 common m k = and-step m k ∙ rw (ap₂ min (sym (bit m)) (sym (bit k)) ∙ go (odd m) (odd k)) (omega arith)
@@ -100,13 +118,22 @@ formats-more [] (suc n) (f ∷ fs) h = absurd (omega arith)
 formats-more (b ∷ bs) n [] h = refl
 formats-more (b ∷ bs) n (f ∷ fs) h = rw (formats-more bs n fs (omega arith))
 
-pub spare-more : (bs : List Bool) (n : ℕ) (fs : List Form) → marksSpare (bs ++ replicate n false) fs ≡ marksSpare bs fs
+none-more : (bs : List Bool) (n : ℕ) → unmarked (bs ++ replicate n false) ≡ unmarked bs
+unfolding unmarked
+none-more [] zero = refl
+none-more [] (suc n) = none-more [] n
+none-more (b ∷ bs) n = rw (none-more bs n)
+
+spare-more : (bs : List Bool) (n : ℕ) (fs : List Form) → marksSpare (bs ++ replicate n false) fs ≡ marksSpare bs fs
 unfolding marksSpare
 spare-more [] zero fs = refl
 spare-more [] (suc n) [] = spare-more [] n []
 spare-more [] (suc n) (f ∷ fs) = spare-more [] n fs
 spare-more (b ∷ bs) n [] = rw (spare-more bs n [])
 spare-more (b ∷ bs) n (f ∷ fs) = rw (spare-more bs n fs)
+
+pub refusal-more : (c : Category) (bs : List Bool) (n : ℕ) → flagsRefusal c (bs ++ replicate n false) ≡ flagsRefusal c bs
+refusal-more c bs n = rw (none-more bs n, spare-more bs n (c .fields))
 
 pub mark-more : (bs : List Bool) (n i : ℕ) → getD (bs ++ replicate n false) i false ≡ getD bs i false
 mark-more [] zero i = refl
@@ -137,37 +164,10 @@ unfolding marksOf flags
 marks-none zero = refl
 marks-none (suc n) = rw (marks-none n)
 
--- a bit that is 0 halves the bound
-halve : (k : ℕ) {x : ℕ} → 0 < k → x < 2 * k → x / k % 2 ≡ 0 → x < 1 * k
-halve k p l e = div-lt-iff-lt-mul p .0 (omega (arith, div-lt-iff-lt-mul p .1 l))
-
--- seven marks whose number is 0 are none
-no-mark : (g : ℕ) → g < 128 → marksOf (flags (g ∷ [])) ≡ 0 → g ≡ 0
-no-mark g l e =
-    let z = marks-one g in
-    let a = halve 64 (lit< tt) l (omega arith) in
-    let b = halve 32 (lit< tt) a (omega arith) in
-    let c = halve 16 (lit< tt) b (omega arith) in
-    let d = halve 8 (lit< tt) c (omega arith) in
-    let f = halve 4 (lit< tt) d (omega arith) in
-    let h = halve 2 (lit< tt) f (omega arith) in
-    omega (arith, mod-eq-of-lt h)
-
--- the number is 0 exactly where nothing is marked
-none-cons : (g : ℕ) (gs : List ℕ) → g < 128 → eqb (marksOf (flags gs)) 0 ≡ zeros gs → eqb (marksOf (flags (g ∷ gs))) 0 ≡ zeros (g ∷ gs)
-unfolding zeros
-none-cons zero gs l h =
-    let m = marksOf (flags gs) in
-    rw (marks-cons 0 gs, marks-one 0, ← h) (same-test (m * 128 + 0) 0 m 0 (λ e. omega arith) (λ e. omega arith))
-none-cons (suc g) gs l h =
-    rw (eqb·suc-zero g)
-    (ne-eqb (marksOf (flags (suc g ∷ gs))) 0 (λ e. omega (arith, no-mark (suc g) l (omega (arith, marks-cons (suc g) gs)))))
-
 -- what reading a specification says of its marks
 pub record Marked (s : List ℕ) (len n at : ℕ) (gs : List ℕ) (q : ℕ) : Type 0 where
   pub long : length gs ≡ suc n
   pub same : marksOf (flags gs) ≡ marksOf (flags (groupsOf (q - at) s at))
-  pub none : eqb (marksOf (flags gs)) 0 ≡ zeros gs
   pub forward : at < q
   pub few : q ≤ at + suc n
   pub within : q ≤ len
@@ -183,7 +183,6 @@ module _ (s : List ℕ) (len : ℕ) (o : Octets s) where
       record {
         long = ap suc (length-replicate n 0);
         same = rw (one, marks-cons g (replicate n 0), marks-none n, zero-mul, zero-add);
-        none = none-cons g (replicate n 0) (omega (arith, o at)) (rw (marks-none n, zeros-replicate n));
         forward = omega arith;
         few = omega arith;
         within = omega arith;
@@ -200,7 +199,6 @@ module _ (s : List ℕ) (len : ℕ) (o : Octets s) where
       record {
         long = ap suc (m .long);
         same = rw (one, marks-cons g gs, m .same, ← marks-cons g (groupsOf (q - (at + 1)) s (at + 1)));
-        none = none-cons g gs (omega (arith, o at)) (m .none);
         forward = omega arith;
         few = omega arith;
         within = m .within;

@@ -19,12 +19,12 @@ use Rattle.layouts.specs.Tables.{layout}
 use Rattle.layouts.specs.Categories.{Category, formAt, layoutAt}
 use Rattle.layouts.proofs.Answers.{through}
 use Rattle.layouts.specs.declared.form.Form.{Form}
-use Rattle.blocks.specs.Specification.{zeros, flags}
+use Rattle.blocks.specs.Specification.{flags}
 use Rattle.blocks.specs.Marks.{marksOf}
-use Rattle.blocks.specs.Records.{formats, marksSpare, layoutOf, marksRefusal, present}
+use Rattle.blocks.specs.Records.{formats, marksSpare, layoutOf, unmarked, marksRefusal, present}
 use Rattle.blocks.specs.Offsets.{specsAt, itemsAt, recordAt}
 use Rattle.blocks.specs.Faults.{Passes, NoCount, PastLast, OutOfRange, Marks, NoneMarked, SpareMarked, Long, Cut, Read, GoodMarks, Faulty, Broken}
-use Rattle.blocks.proofs.MarksLaws.{specs-marked}
+use Rattle.blocks.proofs.MarksLaws.{none-marks}
 use Rattle.blocks.proofs.Faults.{both-hold, neither, answer-got, spec-given-4, spec-given-7, spec-numbers, form-given-7, form-given-8, form-given-9, item-given, item-given-11, item-numbers}
 
 -- Marks
@@ -73,17 +73,14 @@ at-spare (b ∷ bs) [] (suc i) m u = or-yes b (marksSpare bs []) (at-spare bs []
 at-spare (b ∷ bs) (f ∷ fs) zero m u = rw (m, u)
 at-spare (b ∷ bs) (f ∷ fs) (suc i) m u = or-yes (b && isUnused (layout f)) (marksSpare bs fs) (at-spare bs fs i m u)
 
--- of a specification that is read
-module _ (s : List ℕ) (len n at : ℕ) (gs : List ℕ) (p : ℕ) (o : Octets s) (is : specsAt s len n at ≡ got gs p) where
-  none-is : eqb (marksOf (flags gs)) 0 ≡ zeros gs
-  none-is = specs-marked s len n at gs p o is .none
+-- of marks that are seven to a number
+module _ (gs : List ℕ) where
+  unmarked-none : unmarked (flags gs) ≡ true → NoneMarked gs
+  unmarked-none z zero m = false≢true m
+  unmarked-none z (suc i) m = marks-zero (flags gs) (eqb-true (marksOf (flags gs)) 0 (sym (none-marks (flags gs)) ∙ z)) i m
 
-  zeros-none : zeros gs ≡ true → NoneMarked gs
-  zeros-none z zero m = false≢true m
-  zeros-none z (suc i) m = marks-zero (flags gs) (eqb-true (marksOf (flags gs)) 0 (none-is ∙ z)) i m
-
-  none-zeros : NoneMarked gs → zeros gs ≡ true
-  none-zeros h = sym none-is ∙ eq-eqb (marksOf (flags gs)) 0 (zero-marks (flags gs) (λ i. h (suc i)))
+  none-unmarked : NoneMarked gs → unmarked (flags gs) ≡ true
+  none-unmarked h = none-marks (flags gs) ∙ eq-eqb (marksOf (flags gs)) 0 (zero-marks (flags gs) (λ i. h (suc i)))
 
   module _ (c : Category) where
     abbrev spare : Bool
@@ -104,8 +101,8 @@ module _ (s : List ℕ) (len n at : ℕ) (gs : List ℕ) (p : ℕ) (o : Octets s
     unfolding marksRefusal
     marks-given-6 =
         let Same : ℕ → Type 0 = λ r. (r ≡ 6) ↔ NoneMarked gs in
-        choose Same (zeros gs) (λ z. both-hold (zeros-none z)) λ z.
-        let some : NoneMarked gs → ⊥ = λ h. false≢true (sym z ∙ none-zeros h) in
+        choose Same (unmarked (flags gs)) (λ z. both-hold (unmarked-none z)) λ z.
+        let some : NoneMarked gs → ⊥ = λ h. false≢true (sym z ∙ none-unmarked h) in
         choose Same spare (λ a. neither (λ e. omega arith) some) (λ a. neither (λ e. omega arith) some)
 
     -- "5: a spare field marked"
@@ -113,7 +110,7 @@ module _ (s : List ℕ) (len n at : ℕ) (gs : List ℕ) (p : ℕ) (o : Octets s
     unfolding marksRefusal
     marks-given-5 =
         let Same : ℕ → Type 0 = λ r. (r ≡ 5) ↔ SpareMarked c gs in
-        choose Same (zeros gs) (λ z. neither (λ e. omega arith) (λ w. zeros-none z (w .0) (w .1))) λ z.
+        choose Same (unmarked (flags gs)) (λ z. neither (λ e. omega arith) (λ w. unmarked-none z (w .0) (w .1))) λ z.
         choose Same spare (λ a. both-hold (spare-some a)) (λ a. neither (λ e. omega arith) (λ w. false≢true (sym a ∙ some-spare w)))
 
     -- "0: accepted"
@@ -121,16 +118,16 @@ module _ (s : List ℕ) (len n at : ℕ) (gs : List ℕ) (p : ℕ) (o : Octets s
     unfolding marksRefusal
     marks-given-0 =
         let Same : ℕ → Type 0 = λ r. (r ≡ 0) ↔ ((NoneMarked gs → ⊥) × (SpareMarked c gs → ⊥)) in
-        choose Same (zeros gs) (λ z. neither (λ e. omega arith) (λ w. w .0 (zeros-none z))) λ z.
+        choose Same (unmarked (flags gs)) (λ z. neither (λ e. omega arith) (λ w. w .0 (unmarked-none z))) λ z.
         choose Same spare (λ a. neither (λ e. omega arith) (λ w. w .1 (spare-some a)))
-        (λ a. both-hold ((λ h. false≢true (sym z ∙ none-zeros h)), (λ w. false≢true (sym a ∙ some-spare w))))
+        (λ a. both-hold ((λ h. false≢true (sym z ∙ none-unmarked h)), (λ w. false≢true (sym a ∙ some-spare w))))
 
     -- no other number refuses the marks
     pub marks-numbers : (marksRefusal c gs ≡ 0 → ⊥) → (5 ≤ marksRefusal c gs) × (marksRefusal c gs ≤ 6)
     unfolding marksRefusal
     marks-numbers =
         let Known : ℕ → Type 0 = λ r. (r ≡ 0 → ⊥) → (5 ≤ r) × (r ≤ 6) in
-        choose Known (zeros gs) (λ z d. omega arith) (λ z. choose Known spare (λ a d. omega arith) (λ a d. absurd (d refl)))
+        choose Known (unmarked (flags gs)) (λ z d. omega arith) (λ z. choose Known spare (λ a d. omega arith) (λ a d. absurd (d refl)))
 
 -- Items, one after the other
 
@@ -254,10 +251,10 @@ module _ (s : List ℕ) (len : ℕ) (c : Category) (at : ℕ) where
 
   module _ (o : Octets s) where
     judge-good : (gs : List ℕ) (p : ℕ) → Read s len c at gs p → marksRefusal c gs ≡ 0 → GoodMarks s len c at gs p
-    judge-good gs p e z = let w = marks-given-0 s len (c .most - 1) at gs p o e c .0 z in (e, w .0, w .1)
+    judge-good gs p e z = let w = marks-given-0 gs c .0 z in (e, w .0, w .1)
 
     good-judged : (gs : List ℕ) (p : ℕ) → GoodMarks s len c at gs p → eqb (marksRefusal c gs) 0 ≡ true
-    good-judged gs p g = eq-eqb (marksRefusal c gs) 0 (marks-given-0 s len (c .most - 1) at gs p o (g .0) c .1 (g .1, g .2))
+    good-judged gs p g = eq-eqb (marksRefusal c gs) 0 (marks-given-0 gs c .1 (g .1, g .2))
 
     by-items : (gs : List ℕ) (p n : ℕ) → GoodMarks s len c at gs p → itemsAt s len (layoutOf c gs) p ≡ refused n
         → recordAt s len c at ≡ refused n
@@ -286,7 +283,7 @@ module _ (s : List ℕ) (len : ℕ) (c : Category) (at : ℕ) where
 
     -- the numbers of each
     marks-number : (gs : List ℕ) (p n : ℕ) → Read s len c at gs p → marksRefusal c gs ≡ n → (n ≡ 0 → ⊥) → (5 ≤ n) × (n ≤ 6)
-    marks-number gs p n e m d = rw m at (marks-numbers s len (c .most - 1) at gs p o e c (λ z. d (sym m ∙ z)))
+    marks-number gs p n e m d = rw m at (marks-numbers gs c (λ z. d (sym m ∙ z)))
 
     items-number : (gs : List ℕ) (p n : ℕ) → GoodMarks s len c at gs p → itemsAt s len (layoutOf c gs) p ≡ refused n
         → (7 ≤ n) × (n ≤ 11) × (n ≡ 10 → ⊥)
@@ -322,10 +319,10 @@ module _ (s : List ℕ) (len : ℕ) (c : Category) (at : ℕ) where
       given-5 = (
         record-cases 5 ((gs : List ℕ) × (p : ℕ) × Read s len c at gs p × SpareMarked c gs)
             (λ h. absurd (omega (arith, spec-number 5 h)))
-            (λ gs p e m d. (gs, p, e, marks-given-5 s len (c .most - 1) at gs p o e c .0 m))
+            (λ gs p e m d. (gs, p, e, marks-given-5 gs c .0 m))
             (λ gs p g h. absurd (omega (arith, items-number gs p 5 g h)))
             (λ w e. absurd (omega arith)),
-        λ w. by-marks (w .0) (w .1) 5 (w .2) (marks-given-5 s len (c .most - 1) at (w .0) (w .1) o (w .2) c .1 (w .3)) (λ e. omega arith),
+        λ w. by-marks (w .0) (w .1) 5 (w .2) (marks-given-5 (w .0) c .1 (w .3)) (λ e. omega arith),
       )
 
       -- "6: no field marked"
@@ -333,10 +330,10 @@ module _ (s : List ℕ) (len : ℕ) (c : Category) (at : ℕ) where
       given-6 = (
         record-cases 6 ((gs : List ℕ) × (p : ℕ) × Read s len c at gs p × NoneMarked gs)
             (λ h. absurd (omega (arith, spec-number 6 h)))
-            (λ gs p e m d. (gs, p, e, marks-given-6 s len (c .most - 1) at gs p o e c .0 m))
+            (λ gs p e m d. (gs, p, e, marks-given-6 gs c .0 m))
             (λ gs p g h. absurd (omega (arith, items-number gs p 6 g h)))
             (λ w e. absurd (omega arith)),
-        λ w. by-marks (w .0) (w .1) 6 (w .2) (marks-given-6 s len (c .most - 1) at (w .0) (w .1) o (w .2) c .1 (w .3)) (λ e. omega arith),
+        λ w. by-marks (w .0) (w .1) 6 (w .2) (marks-given-6 (w .0) c .1 (w .3)) (λ e. omega arith),
       )
 
       -- an item's number, from the law for an item

@@ -30,13 +30,13 @@ use Rattle.layouts.specs.declared.form.Form.{Form}
 use Rattle.blocks.specs.Specification.{flags}
 use Rattle.blocks.specs.Presence.{rowsOf, meets}
 use Rattle.blocks.specs.Marks.{marksOf, flagsOf, groupsOf, nextMarked}
-use Rattle.blocks.specs.Records.{Rec, formats, marksSpare, layoutOf, marksRefusal, numberRefusal, isType, valueOr, typeIn, typeOf, present}
+use Rattle.blocks.specs.Records.{Rec, formats, marksSpare, layoutOf, unmarked, marksRefusal, numberRefusal, isType, valueOr, typeIn, typeOf, present}
 use Rattle.blocks.specs.Offsets.{specsAt, itemsAt, recordAt}
 use Rattle.blocks.specs.Walks.{onward, runOf, afterItems, restOf}
 use Rattle.blocks.specs.declared.walk.Walked.{Walked}
 use Rattle.items.specs.Typed.{val}
 use Rattle.blocks.proofs.NextLaws.{next-within, next-marked}
-use Rattle.blocks.proofs.MarksLaws.{flags-32, formats-more, spare-more, meets-more, flags-long, Marked, specs-marked, spec-end}
+use Rattle.blocks.proofs.MarksLaws.{flags-32, formats-more, refusal-more, meets-more, flags-long, Marked, specs-marked, spec-end}
 
 -- what holds of the three categories holds of every one that is read
 pub by-known : (P : ℕ → Type 0) → P 23 → P 65 → P 242 → (n : ℕ) → known n ≡ true → P n
@@ -144,8 +144,8 @@ marked-inside (b ∷ bs) (f ∷ fs) zero h m = omega arith
 marked-inside (b ∷ bs) (f ∷ fs) (suc n) h m =
     omega (arith, marked-inside bs fs n (neither (b && isUnused (layout f)) (marksSpare bs fs) h .1) m)
 
-no-spare : (c : Category) (marks : ℕ) → numberRefusal c marks ≡ 0 → marksSpare (flagsOf 32 marks) (c .fields) ≡ false
-no-spare c marks = go (eqb marks 0) (marksSpare (flagsOf 32 marks) (c .fields))
+pub no-spare : (c : Category) (marks : ℕ) → numberRefusal c marks ≡ 0 → marksSpare (flagsOf 32 marks) (c .fields) ≡ false
+no-spare c marks = go (unmarked (flagsOf 32 marks)) (marksSpare (flagsOf 32 marks) (c .fields))
   where
     go : (none spare : Bool) → pick none noneMarked (pick spare spareMarked 0) ≡ 0 → spare ≡ false
     go true spare h = absurd (omega arith)
@@ -332,7 +332,7 @@ module _ (s : List ℕ) (len : ℕ) (c : Category) (at : ℕ) where
 
     same-refusal : w ≡ marksRefusal c gs
     unfolding marksRefusal
-    same-refusal = judged ∙ rw (same-flags, spare-more, is, ← sp .marked .same, sp .marked .none)
+    same-refusal = judged ∙ rw (same-flags, refusal-more)
 
     pub record-unmarked : (w ≡ 0 → ⊥) → Walked.Refused w at ≡ runOf s len c budget at count
     unfolding recordAt

@@ -1,5 +1,5 @@
 -- A record: a field specification, and then the marked items in field order.
-use mathlib.Core.Bool.{Bool, true, false, _&&_, _||_}
+use mathlib.Core.Bool.{Bool, true, false, _&&_, _||_, not}
 use mathlib.Core.List.{List, [], _∷_, _++_}
 use Prim.Native.Nat.{ℕ, suc, _-_}
 use lib.Dec.{eqb}
@@ -12,7 +12,7 @@ use Rattle.layouts.specs.Tables.{layout}
 use Rattle.layouts.specs.Categories.{Category}
 use Rattle.layouts.specs.declared.form.Form.{Form}
 use Rattle.blocks.specs.Forms.{formNumber}
-use Rattle.blocks.specs.Specification.{zeros, putMarks, flags}
+use Rattle.blocks.specs.Specification.{putMarks, flags}
 use Rattle.blocks.specs.Marks.{flagsOf}
 use Rattle.blocks.specs.Presence.{rowsOf, meets}
 
@@ -37,13 +37,21 @@ marksSpare (b ∷ bs) (f ∷ fs) = (b && isUnused (layout f)) || marksSpare bs f
 unfoldable pub layoutOf : Category → List ℕ → List Format
 layoutOf c gs = formats (flags gs) (c .fields)
 
--- 6 for no mark, 5 for one of a spare field, else 0
-unfoldable pub marksRefusal : Category → List ℕ → ℕ
-marksRefusal c gs = pick (zeros gs) noneMarked (pick (marksSpare (flags gs) (c .fields)) spareMarked 0)
+-- no field is marked
+unfoldable pub unmarked : List Bool → Bool
+unmarked [] = true
+unmarked (b ∷ bs) = not b && unmarked bs
 
--- the same of marks as a number: one past the category's last is spare
+-- 6 for no mark, 5 for one of a spare field, else 0
+abbrev pub flagsRefusal : Category → List Bool → ℕ
+flagsRefusal c bs = pick (unmarked bs) noneMarked (pick (marksSpare bs (c .fields)) spareMarked 0)
+
+-- of marks that are seven to a number, and of marks as a number
+unfoldable pub marksRefusal : Category → List ℕ → ℕ
+marksRefusal c gs = flagsRefusal c (flags gs)
+
 abbrev pub numberRefusal : Category → ℕ → ℕ
-numberRefusal c m = pick (eqb m 0) noneMarked (pick (marksSpare (flagsOf 32 m) (c .fields)) spareMarked 0)
+numberRefusal c m = flagsRefusal c (flagsOf 32 m)
 
 -- item 000
 abbrev pub isType : Form → Bool

@@ -16,6 +16,7 @@ use Rattle.layouts.specs.declared.form.Form.{Form}
 use Rattle.layouts.specs.declared.form.Form.the-variants.{Spare, Source, MessageType, Service, Identification, Time, Batch, Sdps, Report, Station, Configuration, Range, Status, Statistics, Versions, Expansion, Purpose}
 use Rattle.blocks.specs.Marks.{flagsOf}
 use Rattle.blocks.specs.Records.{numberRefusal}
+use Rattle.blocks.proofs.MarksLaws.{number-refusal}
 use Rattle.blocks.specs.declared.record.Record.{Record}
 use Rattle.writing.specs.Judged.{recordRefusal}
 use Rattle.writing.specs.Written.{writeOf}
@@ -125,7 +126,9 @@ module _ (t : Record) (held : Held t) where
 
   by-record : cellsRefusal cs ≡ pick (known (t .category)) (numberRefusal (category (t .category)) (t .marks)) unknownCategory
   unfolding cellsRefusal
-  by-record = rw (lt-leb (2 ^ 32) (t .marks) (held 1 (omega arith)), all-held (flagsOf 32 (t .marks)) (category (t .category) .fields))
+  by-record =
+      let small = held 1 (omega arith) in
+      rw (number-refusal _ (t .marks) small, lt-leb (2 ^ 32) (t .marks) small, all-held (flagsOf 32 (t .marks)) (category (t .category) .fields))
 
   -- Writing a record's cells is writing the record.
   pub write-taken : (s : List ℕ) → cellsWritten cs s ≡ writeOf s t

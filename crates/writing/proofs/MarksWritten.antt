@@ -10,7 +10,6 @@ use lib.Dec.{ltb, eqb}
 use lib.ListN.{length, getD, set, replicate}
 use Rattle.octets.specs.Choice.{pick, odd}
 use Rattle.octets.specs.Numbers.{laid}
-use Rattle.octets.specs.Refusals.{spareMarked, noneMarked}
 use Rattle.octets.proofs.Laying.{laid-one, laid-laid}
 use Rattle.octets.proofs.Cases.{neither}
 use Rattle.layouts.specs.Layouts.{isUnused}
@@ -21,12 +20,12 @@ use Rattle.items.specs.Typed.{traceOf}
 use Rattle.blocks.specs.Specification.{zeros, putMarks, flags}
 use Rattle.blocks.specs.Presence.{Row, rowsOf, meets}
 use Rattle.blocks.specs.Marks.{flagsOf}
-use Rattle.blocks.specs.Records.{formats, marksSpare, layoutOf, marksRefusal, valueOr, typeOf, present, putRec}
+use Rattle.blocks.specs.Records.{formats, marksSpare, layoutOf, flagsRefusal, marksRefusal, valueOr, typeOf, present, putRec}
 use Rattle.blocks.specs.Meaning.{itemIn, sevens, valuesOf, recOf}
 use Rattle.blocks.specs.declared.record.Record.{Record}
 use Rattle.blocks.proofs.MeaningLaws.{two, low-bit}
-use Rattle.blocks.proofs.MarksLaws.{flags-long, no-flags, formats-more, spare-more, meets-more}
-use Rattle.blocks.proofs.WalkSteps.{by-known, Table, table}
+use Rattle.blocks.proofs.MarksLaws.{flags-long, no-flags, formats-more, refusal-more, meets-more}
+use Rattle.blocks.proofs.WalkSteps.{by-known, Table, table, no-spare}
 use Rattle.writing.specs.Judged.{itemsOctets, markedRefusal, recordOctets, typeIn, specificationOctet}
 
 -- Seven bits
@@ -218,11 +217,6 @@ spare-small (suc n) m (f ∷ fs) l h =
     let w = neither (odd m && isUnused (layout f)) (marksSpare (flagsOf n (m / 2)) fs) h in
     rw pow-suc (div-lt-iff-lt-mul {k = 2} (zero-lt-suc 1) .0 (spare-small n (m / 2) fs s (w .1)))
 
-unrefused : (x y : Bool) → pick x noneMarked (pick y spareMarked 0) ≡ 0 → (x ≡ false) × (y ≡ false)
-unrefused true y h = absurd (omega arith)
-unrefused false true h = absurd (omega arith)
-unrefused false false h = (refl, refl)
-
 -- marks of a category's fields
 module _ (n m : ℕ) (c : Category) (w : Table n c) (l : m < 2 ^ length (c .fields)) where
   -- the marks that are put, and fields that are not marked
@@ -238,8 +232,8 @@ module _ (n m : ℕ) (c : Category) (w : Table n c) (l : m < 2 ^ length (c .fiel
       omega (arith, flags-long (sevens (c .most) m), length-marks (c .most) m, w .long) in
       rw (flags-put, formats-more (flags (sevens (c .most) m)) (32 - 7 * c .most) (c .fields) long)
 
-  spare-put : marksSpare (flags (sevens (c .most) m)) (c .fields) ≡ marksSpare (flagsOf 32 m) (c .fields)
-  spare-put = rw (flags-put, spare-more)
+  refusal-put : flagsRefusal c (flags (sevens (c .most) m)) ≡ flagsRefusal c (flagsOf 32 m)
+  refusal-put = rw (flags-put, refusal-more)
 
   meets-put : (rs : List Row) (kind : ℕ) → meets rs kind (flags (sevens (c .most) m)) ≡ meets rs kind (flagsOf 32 m)
   meets-put rs kind = rw (flags-put, meets-more)
@@ -262,11 +256,8 @@ module _ (s : List ℕ) (t : Record) where
 
 -- A typed record whose marks are not refused
 module _ (s : List ℕ) (t : Record) (k : known (t .category) ≡ true) (small : t .marks < 4294967296) (fine : markedRefusal s t ≡ 0) where
-  marked : (eqb (t .marks) 0 ≡ false) × (marksSpare (flagsOf 32 (t .marks)) (category (t .category) .fields) ≡ false)
-  marked = unrefused (eqb (t .marks) 0) (marksSpare (flagsOf 32 (t .marks)) (category (t .category) .fields)) fine
-
   pub by-fields : t .marks < 2 ^ length (category (t .category) .fields)
-  by-fields = spare-small 32 (t .marks) (category (t .category) .fields) small (marked .1)
+  by-fields = spare-small 32 (t .marks) (category (t .category) .fields) small (no-spare (category (t .category)) (t .marks) fine)
 
   -- no field past the category's last is marked
   pub marks-small : t .marks < 128 ^ category (t .category) .most
@@ -294,13 +285,7 @@ module _ (s : List ℕ) (t : Record) (k : known (t .category) ≡ true) (small :
 
   pub marks-good : marksRefusal (category (t .category)) (recOf s t .marks) ≡ 0
   unfolding marksRefusal recOf
-  marks-good =
-      rw (
-        zeros-sevens (category (t .category) .most) (t .marks) marks-small,
-        marked .0,
-        spare-put (t .category) (t .marks) (category (t .category)) (table (t .category) k) by-fields,
-        marked .1,
-      )
+  marks-good = refusal-put (t .category) (t .marks) (category (t .category)) (table (t .category) k) by-fields ∙ fine
 
   -- presence, as the code tests it
   pub present-by-type : present (category (t .category)) (recOf s t .marks) (recOf s t .items)

@@ -5,11 +5,10 @@ use mathlib.Core.List.{List, [], _∷_, _++_}
 use Prim.Native.Nat.{ℕ, suc, _+_, _-_, _*_, _≤_, _<_}
 use native.Mathlib.Omega.{arith}
 use borrow.Author.Tests.{eqb-true}
-use lib.Dec.{eqb}
 use lib.ListN.{length, getD, replicate}
 use Rattle.octets.specs.Choice.{pick}
 use Rattle.octets.specs.Numbers.{Octets}
-use Rattle.octets.specs.Refusals.{outOfRange, noneMarked, spareMarked}
+use Rattle.octets.specs.Refusals.{outOfRange}
 use Rattle.layouts.specs.Formats.{got, Trace, fitsIn}
 use Rattle.layouts.specs.Offsets.{runAt, itemAt}
 use Rattle.layouts.specs.Layouts.{format}
@@ -20,16 +19,15 @@ use Rattle.layouts.proofs.Answers.{pick-yes, through}
 use Rattle.items.specs.Typed.{itemRefusal}
 use Rattle.items.proofs.Items.{itemOf}
 use Rattle.items.proofs.Judged.{read-refusal}
-use Rattle.blocks.specs.Specification.{zeros, flags}
-use Rattle.blocks.specs.Marks.{marksOf}
-use Rattle.blocks.specs.Records.{Rec, layoutOf, marksSpare, marksRefusal, present, putRec}
+use Rattle.blocks.specs.Specification.{flags}
+use Rattle.blocks.specs.Records.{Rec, layoutOf, flagsRefusal, marksRefusal, present, putRec}
 use Rattle.blocks.specs.Offsets.{itemsAt, recordAt}
 use Rattle.blocks.specs.Typed.{typedRec}
 use Rattle.blocks.specs.Steps.{itemsFrom}
 use Rattle.blocks.specs.Meaning.{itemIn, recOf}
 use Rattle.blocks.specs.declared.record.Record.{Record}
 use Rattle.blocks.proofs.BlockLaws.{category-number}
-use Rattle.blocks.proofs.MarksLaws.{flags-32, mark-more, spare-more, specs-marked}
+use Rattle.blocks.proofs.MarksLaws.{flags-32, mark-more, refusal-more, specs-marked}
 use Rattle.blocks.proofs.ReadSteps.{record-parts}
 use Rattle.blocks.proofs.FormLaws.{Forms, forms}
 use Rattle.blocks.proofs.MeaningLaws.{item-read, means-read}
@@ -62,11 +60,6 @@ module _ (s : List ℕ) (t : Record) where
       go true h e = rw (h refl, e)
       go false h e = e
 
-  -- the marks, by their tests
-  marks-fine : (fs : List Form) (a b : Bool) → fields s t ≡ fs → eqb (t .marks) 0 ≡ a → marksSpare (judged.flags s t) fs ≡ b
-      → pick a noneMarked (pick b spareMarked 0) ≡ 0 → markedRefusal s t ≡ 0
-  marks-fine fs a b hf ha hb h = rw (hf, ha, hb) h
-
   -- test after test
   tests-fine : known (t .category) ≡ true → markedRefusal s t ≡ 0 → itemsRefusal s t (judged.flags s t) (fields s t) ≡ 0
       → present (category (t .category)) (recOf s t .marks) (recOf s t .items) ≡ true → recordRefusal s t ≡ 0
@@ -94,11 +87,13 @@ module _ (s : List ℕ) (len : ℕ) (c : Category) (w : Forms c) (gs : List ℕ)
   unfolding typedRec
   is-category = w .same
 
-  mark-fine : eqb (marksOf (flags gs)) 0 ≡ zeros gs → marksRefusal c gs ≡ 0 → markedRefusal s t ≡ 0
-  unfolding typedRec marksRefusal
-  mark-fine none z =
-      marks-fine s t (c .fields) (zeros gs) (marksSpare (flags gs) (c .fields)) (ap (λ (c : Category). c .fields) is-category) none
-      (rw flags-are (spare-more (flags gs) (32 - 7 * length gs) (c .fields))) z
+  mark-fine : marksRefusal c gs ≡ 0 → markedRefusal s t ≡ 0
+  unfolding marksRefusal
+  mark-fine z =
+      ap (λ (c : Category). flagsRefusal c (judged.flags s t)) is-category
+      ∙ ap (flagsRefusal c) flags-are
+      ∙ refusal-more c (flags gs) (32 - 7 * length gs)
+      ∙ z
 
   values-fine : len ≤ length s → itemsRefusal s t (judged.flags s t) (c .fields) ≡ 0
   values-fine fit =
@@ -107,11 +102,11 @@ module _ (s : List ℕ) (len : ℕ) (c : Category) (w : Forms c) (gs : List ℕ)
       let (e, is) = item-read s len c w gs trs p q read n l marked in
       rw is (item-fine s len fit (getD (c .fields) n Form.Spare) _ (getD trs n []) _ e)
 
-  typed-fine : len ≤ length s → known (c .number) ≡ true → eqb (marksOf (flags gs)) 0 ≡ zeros gs → marksRefusal c gs ≡ 0
+  typed-fine : len ≤ length s → known (c .number) ≡ true → marksRefusal c gs ≡ 0
       → present c gs trs ≡ true → recOf s t ≡ record { marks = gs; items = trs } → recordRefusal s t ≡ 0
   unfolding typedRec
-  typed-fine fit k none z y means =
-      record-fine s t c (record { marks = gs; items = trs }) is-category means k (mark-fine none z) (values-fine fit) y
+  typed-fine fit k z y means =
+      record-fine s t c (record { marks = gs; items = trs }) is-category means k (mark-fine z) (values-fine fit) y
 
 module _ (s : List ℕ) (len number : ℕ) (c : Category) (w : Forms c) (tab : Table number c) (at : ℕ) (o : Octets s) (fit : len ≤ length s)
     (k : known (c .number) ≡ true) where
@@ -122,7 +117,7 @@ module _ (s : List ℕ) (len number : ℕ) (c : Category) (w : Forms c) (tab : T
       let m = specs-marked s len (c .most - 1) at (r .marks) p o e in
       let few : length (r .marks) ≤ 4 = omega (arith, m .long, tab .some, tab .few) in
       let is : itemsFrom s len c at ≡ p = rw e in
-      rw is (typed-fine s len c w (r .marks) (r .items) p q few e' fit k (m .none) (eqb-true _ _ z) y (rw is at means))
+      rw is (typed-fine s len c w (r .marks) (r .items) p q few e' fit k (eqb-true _ _ z) y (rw is at means))
 
 module _ (s : List ℕ) (len number at : ℕ) (o : Octets s) (fit : len ≤ length s) (k : known number ≡ true) where
   abbrev made : Rec → Record

@@ -12,6 +12,7 @@ use Rattle.octets.specs.Refusals.{unknownCategory, spareMarked, noneMarked, out
 use Rattle.layouts.specs.Categories.{known, category}
 use Rattle.blocks.specs.Marks.{flagsOf}
 use Rattle.blocks.specs.Records.{marksSpare, numberRefusal}
+use Rattle.blocks.proofs.MarksLaws.{number-refusal}
 use Rattle.doors.specs.Cells.{cell, allFit, cellsRefusal}
 use Rattle.doors.proofs.cells.cells_refusal.Statement.{statement}
 use Rattle.doors.proofs.cells.cells_refusal.Tie as tie
@@ -57,7 +58,7 @@ module _ (cs : List ℕ) where
         by-marks : cellsRefusal cs ≡ pick (eqb r 0) (pick (allFit cs (flagsOf 32 m) (category n .fields)) 0 outOfRange) r
         unfolding cellsRefusal
         by-marks =
-            rw (judged, number, kn, marks, lt-leb (2 ^ 32) m (omega arith))
+            rw (judged, number-refusal (category n) m (omega arith), number, kn, marks, lt-leb (2 ^ 32) m (omega arith))
             (tests (eqb m 0) (marksSpare (flagsOf 32 m) (category n .fields)) (pick (allFit cs (flagsOf 32 m) (category n .fields)) 0 outOfRange))
 
 abbrev calls : lts.Claims
