@@ -25,7 +25,7 @@ use Rattle.blocks.specs.Records.{Rec}
 use Rattle.blocks.specs.Blocks.{Block, wrong, all, blockOf}
 use Rattle.blocks.proofs.Suffixes.{records}
 use Rattle.blocks.specs.Alike.{RecordsAlikeAt}
-use Rattle.blocks.specs.Typed.{turn}
+use Rattle.blocks.specs.Forms.{formNumber}
 use Rattle.blocks.specs.Steps.{stepOf, entryValues, entryIn, entryOf}
 use Rattle.blocks.specs.Statistics.{isStatistics, statisticsOf}
 use Rattle.blocks.specs.Walks.{answerOf, readOf}
@@ -55,9 +55,9 @@ use Rattle.demands.proofs.Demand2.{same-records}
 use Rattle.demands.proofs.Rewritten.{same-blocks, rewritten-octets, longer-octets, plain-octets}
 
 -- a form of items before those of entries and content
-no-place : (f : Form) → turn f < 13 → (b : Bool) → f ≡ pick b Form.Statistics Form.Versions → ⊥
-no-place f l true e = omega (arith, ap turn e)
-no-place f l false e = omega (arith, ap turn e)
+no-place : (f : Form) → formNumber f < 13 → (b : Bool) → f ≡ pick b Form.Statistics Form.Versions → ⊥
+no-place f l true e = omega (arith, ap formNumber e)
+no-place f l false e = omega (arith, ap formNumber e)
 
 -- a statistics report is of category 23
 of-23 : (t : Record) → isStatistics t ≡ true → t .category ≡ 23
@@ -66,7 +66,7 @@ of-23 t h = test (eqb (t .category) 23) (eqb-true (t .category) 23) (λ e. absur
 -- Two records that are the same
 module _ (s x : List ℕ) (t u : Record) (same : Same s t x u) (back : Same x u s t) where
   -- have the same item of such a form, marked or not
-  item-same : (f : Form) → turn f < 13 → ((at : ℕ) → settled at (itemIn t f) ≡ itemIn t f) → itemIn u f ≡ itemIn t f
+  item-same : (f : Form) → formNumber f < 13 → ((at : ℕ) → settled at (itemIn t f) ≡ itemIn t f) → itemIn u f ≡ itemIn t f
   item-same f l plain =
       test (has t f) (λ h. same .present f h .1 ∙ plain (same .present f h .0))
       (λ h. same .absent f (no-place f l (eqb (t .category) 242)) h
