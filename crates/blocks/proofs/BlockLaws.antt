@@ -19,11 +19,12 @@ use Rattle.layouts.specs.Categories.{Category, cat23, cat65, cat242, known, cat
 use Rattle.layouts.proofs.Answers.{and-yes}
 use Rattle.layouts.proofs.Windows.{window, window-long}
 use Rattle.blocks.specs.Specification.{zeros, putMarks}
-use Rattle.blocks.specs.Records.{Rec, good, putRec}
+use Rattle.blocks.specs.Records.{Rec, putRec}
 use Rattle.blocks.specs.Headers.{headerOf}
-use Rattle.blocks.specs.Blocks.{Block, wrong, all, with, blockFrom, blockOf, putRecs, allGood, putBlock}
+use Rattle.blocks.specs.Blocks.{Block, wrong, all, with, blockFrom, blockOf, putRecs, putBlock}
 use Rattle.blocks.specs.declared.header.Head.{Head}
 use Rattle.blocks.proofs.HeaderLaws.{header-cases, header-fits}
+use Rattle.blocks.proofs.GoodRecords.{good, allGood}
 use Rattle.blocks.proofs.Suffixes.{recordOf, first, records, records-step, records-none}
 use Rattle.blocks.proofs.WindowLaws.{records-at}
 use Rattle.blocks.proofs.RecordLaws.{record-held}
