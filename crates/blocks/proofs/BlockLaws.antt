@@ -104,7 +104,7 @@ pub category-number : (cat : ℕ) → category cat .number ≡ cat
 category-number cat = go (eqb cat 23) (eqb cat 65) (eqb cat 242) (eqb-true cat 23) (eqb-true cat 65) (eqb-true cat 242)
   where
     go : (a b d : Bool) → (a ≡ true → cat ≡ 23) → (b ≡ true → cat ≡ 65) → (d ≡ true → cat ≡ 242)
-        → pick a cat23 (pick b cat65 (pick d cat242 (record { number = cat; most = 0; fields = []; mandatory = [] }))) .number ≡ cat
+        → pick a cat23 (pick b cat65 (pick d cat242 (record { number = cat; most = 0; fields = [] }))) .number ≡ cat
     go true b d f g h = sym (f refl)
     go false true d f g h = sym (g refl)
     go false false true f g h = sym (h refl)

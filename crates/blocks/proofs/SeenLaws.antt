@@ -19,7 +19,7 @@ use Rattle.layouts.specs.Ends.{kindEnd}
 use Rattle.layouts.specs.Categories.{cat23, layoutAt}
 use Rattle.blocks.specs.Specification.{flags}
 use Rattle.blocks.specs.Marks.{marksOf, flagsOf, groupsOf}
-use Rattle.blocks.specs.Presence.{meets}
+use Rattle.layouts.specs.Presence.{meets}
 use Rattle.blocks.specs.Records.{layoutOf, marksRefusal, present}
 use Rattle.blocks.specs.Offsets.{specsAt, itemsAt}
 use Rattle.blocks.specs.Typed.{endFrom, behind, startOf, typedOf}

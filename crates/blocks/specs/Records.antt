@@ -14,7 +14,7 @@ use Rattle.layouts.specs.declared.form.Form.{Form}
 use Rattle.blocks.specs.Forms.{formNumber}
 use Rattle.blocks.specs.Specification.{putMarks, flags}
 use Rattle.blocks.specs.Marks.{flagsOf}
-use Rattle.blocks.specs.Presence.{rowsOf, meets}
+use Rattle.layouts.specs.Presence.{rowsOf, meets}
 
 -- the marks, seven to a number, and for each field its values: none where it is not marked
 pub record Rec : Type 0 where
