@@ -19,11 +19,12 @@ use Rattle.layouts.specs.Categories.{Category, cat23, cat65, cat242, known, cat
 use Rattle.layouts.proofs.Answers.{and-yes}
 use Rattle.layouts.proofs.Windows.{window, window-long}
 use Rattle.blocks.specs.Specification.{zeros, putMarks}
-use Rattle.blocks.specs.Records.{Rec, good, putRec}
+use Rattle.blocks.specs.Records.{Rec, putRec}
 use Rattle.blocks.specs.Headers.{headerOf}
-use Rattle.blocks.specs.Blocks.{Block, wrong, all, with, blockFrom, blockOf, putRecs, allGood, putBlock}
+use Rattle.blocks.specs.Blocks.{Block, wrong, all, with, blockFrom, blockOf, putRecs, putBlock}
 use Rattle.blocks.specs.declared.header.Head.{Head}
 use Rattle.blocks.proofs.HeaderLaws.{header-cases, header-fits}
+use Rattle.blocks.proofs.GoodRecords.{good, allGood}
 use Rattle.blocks.proofs.Suffixes.{recordOf, first, records, records-step, records-none}
 use Rattle.blocks.proofs.WindowLaws.{records-at}
 use Rattle.blocks.proofs.RecordLaws.{record-held}
@@ -103,7 +104,7 @@ pub category-number : (cat : ℕ) → category cat .number ≡ cat
 category-number cat = go (eqb cat 23) (eqb cat 65) (eqb cat 242) (eqb-true cat 23) (eqb-true cat 65) (eqb-true cat 242)
   where
     go : (a b d : Bool) → (a ≡ true → cat ≡ 23) → (b ≡ true → cat ≡ 65) → (d ≡ true → cat ≡ 242)
-        → pick a cat23 (pick b cat65 (pick d cat242 (record { number = cat; most = 0; fields = []; mandatory = [] }))) .number ≡ cat
+        → pick a cat23 (pick b cat65 (pick d cat242 (record { number = cat; most = 0; fields = [] }))) .number ≡ cat
     go true b d f g h = sym (f refl)
     go false true d f g h = sym (g refl)
     go false false true f g h = sym (h refl)

@@ -1,5 +1,6 @@
 pub mod HeaderLaws
 pub mod Suffixes
+pub mod GoodRecords
 pub mod RecordLaws
 pub mod RecordTheorems
 pub mod WindowLaws

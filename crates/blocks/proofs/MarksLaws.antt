@@ -20,7 +20,7 @@ use Rattle.layouts.specs.declared.form.Form.{Form}
 use Rattle.layouts.proofs.Answers.{OfGot, of-pick}
 use Rattle.layouts.proofs.KindEnds.{none-left, end-then}
 use Rattle.blocks.specs.Specification.{flags}
-use Rattle.blocks.specs.Presence.{Row, meets}
+use Rattle.layouts.specs.Presence.{Row, meets}
 use Rattle.blocks.specs.Marks.{marksOf, flagsOf, groupsOf}
 use Rattle.blocks.specs.Records.{formats, marksSpare, unmarked, flagsRefusal, numberRefusal}
 use Rattle.blocks.specs.Offsets.{specsAt}

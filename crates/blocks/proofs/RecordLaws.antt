@@ -19,7 +19,8 @@ use Rattle.layouts.proofs.Answers.{and-yes, through, pick-no, pick-yes, got-ref
 use Rattle.layouts.proofs.Suffixes.{item}
 use Rattle.layouts.proofs.Formats.{Was, item-put, item-was}
 use Rattle.blocks.specs.Specification.{zeros, putMarks}
-use Rattle.blocks.specs.Records.{Rec, layoutOf, marksRefusal, present, itemsFit, putItems, good}
+use Rattle.blocks.specs.Records.{Rec, layoutOf, marksRefusal, present, putItems}
+use Rattle.blocks.proofs.GoodRecords.{itemsFit, good}
 use Rattle.blocks.proofs.Suffixes.{specs, items, recordOf}
 
 -- The specification

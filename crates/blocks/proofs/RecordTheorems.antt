@@ -15,7 +15,8 @@ use Rattle.layouts.specs.Formats.{got, Format, Trace}
 use Rattle.layouts.specs.Categories.{Category}
 use Rattle.layouts.proofs.Formats.{put-length}
 use Rattle.blocks.specs.Specification.{putMarks}
-use Rattle.blocks.specs.Records.{Rec, layoutOf, putItems, good, putRec}
+use Rattle.blocks.specs.Records.{Rec, layoutOf, putItems, putRec}
+use Rattle.blocks.proofs.GoodRecords.{good}
 use Rattle.blocks.proofs.Suffixes.{specs, recordOf}
 use Rattle.blocks.proofs.RecordLaws.{Octets-tail, specs-put, record-any, record-held}
 

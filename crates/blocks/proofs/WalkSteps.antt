@@ -28,7 +28,7 @@ use Rattle.layouts.specs.declared.ends.End.{End}
 use Rattle.layouts.specs.declared.ends.End.the-variants.{At, Refused}
 use Rattle.layouts.specs.declared.form.Form.{Form}
 use Rattle.blocks.specs.Specification.{flags}
-use Rattle.blocks.specs.Presence.{rowsOf, meets}
+use Rattle.layouts.specs.Presence.{rowsOf, meets}
 use Rattle.blocks.specs.Marks.{marksOf, flagsOf, groupsOf, nextMarked}
 use Rattle.blocks.specs.Records.{Rec, formats, marksSpare, layoutOf, unmarked, marksRefusal, numberRefusal, isType, valueOr, typeIn, typeOf, present}
 use Rattle.blocks.specs.Offsets.{specsAt, itemsAt, recordAt}

@@ -1,5 +1,4 @@
 -- A block: CAT, LEN, and records that fill it (01 "Block and field specification").
-use mathlib.Core.Bool.{Bool, true, _&&_}
 use mathlib.Core.List.{List, [], _∷_, _++_}
 use Prim.Native.Nat.{ℕ, zero, suc, _+_}
 use lib.Dec.{leb}
@@ -11,7 +10,7 @@ use Rattle.layouts.specs.Categories.{Category, category}
 use Rattle.blocks.specs.Headers.{headerOf}
 use Rattle.blocks.specs.declared.header.Head.{Head}
 use Rattle.blocks.specs.declared.header.Head.the-variants.{Good, Refused}
-use Rattle.blocks.specs.Records.{Rec, good, putRec}
+use Rattle.blocks.specs.Records.{Rec, putRec}
 use Rattle.blocks.specs.Offsets.{recordAt}
 
 -- a refusal number and the offset of the faulty record's first octet; or the category's number and the records
@@ -48,10 +47,6 @@ blockOf s = blockFrom s (headerOf s)
 unfoldable pub putRecs : Category → List Rec → List ℕ
 putRecs c [] = []
 putRecs c (r ∷ rs) = putRec c r ++ putRecs c rs
-
-unfoldable pub allGood : Category → List Rec → Bool
-allGood c [] = true
-allGood c (r ∷ rs) = good c r && allGood c rs
 
 -- records as a block, in normal form
 unfoldable pub putBlock : ℕ → List Rec → List ℕ

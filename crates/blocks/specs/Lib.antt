@@ -1,6 +1,5 @@
 pub mod Forms
 pub mod Specification
-pub mod Presence
 pub mod Marks
 pub mod Records
 pub mod Offsets

@@ -1,12 +1,12 @@
 -- A record: a field specification, and then the marked items in field order.
 use mathlib.Core.Bool.{Bool, true, false, _&&_, _||_, not}
 use mathlib.Core.List.{List, [], _∷_, _++_}
-use Prim.Native.Nat.{ℕ, suc, _-_}
+use Prim.Native.Nat.{ℕ}
 use lib.Dec.{eqb}
-use lib.ListN.{length, getD, drop}
+use lib.ListN.{getD, drop}
 use Rattle.octets.specs.Choice.{pick}
 use Rattle.octets.specs.Refusals.{spareMarked, noneMarked}
-use Rattle.layouts.specs.Formats.{Format, done, Trace, fitsIn, put}
+use Rattle.layouts.specs.Formats.{Format, done, Trace, put}
 use Rattle.layouts.specs.Layouts.{isUnused, format}
 use Rattle.layouts.specs.Tables.{layout}
 use Rattle.layouts.specs.Categories.{Category}
@@ -14,7 +14,7 @@ use Rattle.layouts.specs.declared.form.Form.{Form}
 use Rattle.blocks.specs.Forms.{formNumber}
 use Rattle.blocks.specs.Specification.{putMarks, flags}
 use Rattle.blocks.specs.Marks.{flagsOf}
-use Rattle.blocks.specs.Presence.{rowsOf, meets}
+use Rattle.layouts.specs.Presence.{rowsOf, meets}
 
 -- the marks, seven to a number, and for each field its values: none where it is not marked
 pub record Rec : Type 0 where
@@ -75,24 +75,10 @@ typeOf c trs = typeIn 0 (c .fields) trs
 unfoldable pub present : Category → List ℕ → List Trace → Bool
 present c gs trs = meets (rowsOf (c .number)) (typeOf c trs) (flags gs)
 
-unfoldable pub itemsFit : List Format → List Trace → Bool
-itemsFit [] [] = true
-itemsFit [] (tr ∷ trs) = false
-itemsFit (f ∷ fs) [] = false
-itemsFit (f ∷ fs) (tr ∷ trs) = fitsIn f tr && itemsFit fs trs
-
 unfoldable pub putItems : List Format → List Trace → List (List ℕ) → List ℕ
 putItems [] trs xs = []
 putItems (f ∷ fs) [] xs = []
 putItems (f ∷ fs) (tr ∷ trs) xs = put f tr (getD xs 0 []) ++ putItems fs trs (drop 1 xs)
-
--- what a record must be to be written
-unfoldable pub good : Category → Rec → Bool
-good c r =
-    eqb (length (r .marks)) (suc (c .most - 1))
-    && (eqb (marksRefusal c (r .marks)) 0
-    && (itemsFit (layoutOf c (r .marks)) (r .items)
-    && present c (r .marks) (r .items)))
 
 -- a record in normal form: no last specification octet that marks nothing, spare bits zero
 unfoldable pub putRec : Category → Rec → List ℕ

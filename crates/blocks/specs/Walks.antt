@@ -10,7 +10,7 @@ use Rattle.octets.specs.Refusals.{presenceBroken}
 use Rattle.layouts.specs.Formats.{Answer, refused, got, Trace}
 use Rattle.layouts.specs.Categories.{Category}
 use Rattle.layouts.specs.declared.form.Form.{Form}
-use Rattle.blocks.specs.Presence.{rowsOf, meets}
+use Rattle.layouts.specs.Presence.{rowsOf, meets}
 use Rattle.blocks.specs.Records.{Rec, formats, typeIn}
 use Rattle.blocks.specs.Blocks.{Block, wrong, all, blockOf}
 use Rattle.blocks.specs.Offsets.{itemsAt, recordAt}

@@ -1,6 +1,6 @@
 // Which items a record has, by its type.
 ghost use mathlib.Core.Path.{_≡_};
-ghost use Rattle.blocks.specs.Presence.{rowsOf, rowsByType, meets};
+ghost use Rattle.layouts.specs.Presence.{rowsOf, rowsByType, meets};
 ghost use Rattle.blocks.specs.Marks.{flagsOf, hasAll};
 use crate::marks::is_marked;
 use layouts::category::Cat65;

@@ -8,7 +8,7 @@ use Rattle.layouts.specs.Offsets.{runAt, itemAt}
 use Rattle.layouts.specs.Layouts.{times, chain, counted, format}
 use Rattle.blocks.specs.Specification.{zeros, putMarks, flags}
 use Rattle.blocks.specs.Marks.{marksOf, flagsOf}
-use Rattle.blocks.specs.Presence.{meets}
+use Rattle.layouts.specs.Presence.{meets}
 use Rattle.blocks.specs.Headers.{headerOf}
 use Rattle.blocks.specs.Records.{formats, marksSpare, layoutOf, unmarked, marksRefusal, present, putItems, putRec}
 use Rattle.blocks.specs.Blocks.{recordsAt, blockOf, putRecs, putBlock}

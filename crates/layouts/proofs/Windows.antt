@@ -114,7 +114,7 @@ module _ (s : List ℕ) (len : ℕ) where
       let (a, b) = run-within (k v) (at + g .wide) tr' q' room e' in
       (omega arith, omega arith)
 
-  behind-got : {A : Type 0} (m : Answer ℕ A) (a : A) (r : List ℕ) → behind s len m ≡ got a r
+  pub behind-got : {A : Type 0} (m : Answer ℕ A) (a : A) (r : List ℕ) → behind s len m ≡ got a r
       → (q : ℕ) × (m ≡ got a q) × (window s len q ≡ r)
   behind-got (refused n) a r h = absurd (got-refused h)
   behind-got (got b q) a r h = (q, cc, cc)

@@ -16,8 +16,6 @@ pub record Category : Type 0 where
   -- the most specification octets
   pub most : ℕ
   pub fields : List Form
-  -- the fields that are always there (01 "Presence")
-  pub mandatory : List ℕ
 
 abbrev pub cat23 : Category
 cat23 = record {
@@ -39,8 +37,6 @@ cat23 = record {
       ∷ Expansion  -- 13, RE
       ∷ Purpose  -- 14, SP
       ∷ [];
-  -- 000 and 070
-  mandatory = 2 ∷ 4 ∷ [];
 }
 
 abbrev pub cat65 : Category
@@ -63,8 +59,6 @@ cat65 = record {
       ∷ Expansion  -- 13, RE
       ∷ Purpose  -- 14, SP
       ∷ [];
-  -- 010, 000, 015 and 030
-  mandatory = 1 ∷ 2 ∷ 3 ∷ 4 ∷ [];
 }
 
 abbrev pub cat242 : Category
@@ -80,8 +74,6 @@ cat242 = record {
       ∷ Purpose  -- 6, SP
       ∷ Expansion  -- 7, RE
       ∷ [];
-  -- 010, 140 and 550
-  mandatory = 1 ∷ 2 ∷ 3 ∷ [];
 }
 
 -- the categories that the box reads
@@ -93,7 +85,7 @@ abbrev pub category : ℕ → Category
 category n =
     pick (eqb n 23) cat23
     (pick (eqb n 65) cat65
-    (pick (eqb n 242) cat242 (record { number = n; most = 0; fields = []; mandatory = [] })))
+    (pick (eqb n 242) cat242 (record { number = n; most = 0; fields = [] })))
 
 -- what stands at a field; a field past the last is spare (01 "Refusal numbers")
 abbrev pub formAt : Category → ℕ → Form

@@ -6,3 +6,4 @@ pub mod Layouts
 pub mod Ends
 pub mod Tables
 pub mod Categories
+pub mod Presence

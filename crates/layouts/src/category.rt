@@ -1,6 +1,7 @@
 // The categories: a type for each, with its constants (document 01, "Block and field specification").
 ghost use mathlib.Core.Path.{_≡_};
 ghost use Rattle.layouts.specs.Categories.{cat23, cat65, cat242, known, category, fieldAt, fieldMarks, unusedMarks};
+ghost use Rattle.layouts.specs.Presence.{mandatory, rowsOf};
 use crate::ends::Kind;
 use crate::form::Form;
 
@@ -185,7 +186,7 @@ pub fn most_of(number: u8) -> u8
 
 // The marks that every record of a category has.
 pub fn mandatory_of(number: u8) -> u32
-    ensures { λ r. ⌜ r ≡ fieldMarks (category number .mandatory) ⌝ }
+    ensures { λ r. ⌜ r ≡ fieldMarks (mandatory (rowsOf number)) ⌝ }
 {
     match number {
         Cat23::NUMBER => Cat23::MANDATORY,

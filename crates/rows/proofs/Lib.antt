@@ -6,3 +6,4 @@ pub mod Maps
 pub mod Posts
 pub mod Link
 pub mod Theorems
+pub mod Examples

@@ -2,4 +2,3 @@ pub mod Rows
 pub mod Posting
 pub mod Order
 pub mod Claims
-pub mod Examples

@@ -27,7 +27,8 @@ use Rattle.items.proofs.ReadBack.{item-fits}
 use Rattle.items.proofs.Judged.{room-of}
 use Rattle.items.proofs.Written.{lengthBy, length-at}
 use Rattle.blocks.specs.Marks.{flagsOf}
-use Rattle.blocks.specs.Records.{formats, itemsFit, putItems}
+use Rattle.blocks.specs.Records.{formats, putItems}
+use Rattle.blocks.proofs.GoodRecords.{itemsFit}
 use Rattle.blocks.specs.Meaning.{itemIn, valuesOf}
 use Rattle.blocks.specs.declared.record.Record.{Record}
 use Rattle.writing.specs.Judged.{orElse, itemsRefusal, octetsOf, itemsSize, flags, fields, itemsOctets}

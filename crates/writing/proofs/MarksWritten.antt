@@ -18,7 +18,7 @@ use Rattle.layouts.specs.Categories.{Category, known, category}
 use Rattle.layouts.specs.declared.form.Form.{Form}
 use Rattle.items.specs.Typed.{traceOf}
 use Rattle.blocks.specs.Specification.{zeros, putMarks, flags}
-use Rattle.blocks.specs.Presence.{Row, rowsOf, meets}
+use Rattle.layouts.specs.Presence.{Row, rowsOf, meets}
 use Rattle.blocks.specs.Marks.{flagsOf}
 use Rattle.blocks.specs.Records.{formats, marksSpare, layoutOf, flagsRefusal, marksRefusal, valueOr, typeOf, present, putRec}
 use Rattle.blocks.specs.Meaning.{itemIn, sevens, valuesOf, recOf}

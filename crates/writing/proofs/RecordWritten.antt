@@ -14,7 +14,7 @@ use Rattle.octets.proofs.Laying.{length-laid, laid-laid}
 use Rattle.layouts.specs.Categories.{known, category}
 use Rattle.items.specs.declared.item.Size.{Size}
 use Rattle.blocks.specs.Specification.{putMarks}
-use Rattle.blocks.specs.Presence.{rowsOf, meets}
+use Rattle.layouts.specs.Presence.{rowsOf, meets}
 use Rattle.blocks.specs.Marks.{flagsOf}
 use Rattle.blocks.specs.Records.{present, putRec}
 use Rattle.blocks.specs.Blocks.{putRecs, putBlock}

@@ -12,8 +12,9 @@ use Rattle.octets.specs.Choice.{pick}
 use Rattle.octets.specs.Numbers.{Octets, number}
 use Rattle.layouts.specs.Categories.{category, known}
 use Rattle.layouts.proofs.Answers.{and-yes}
-use Rattle.blocks.specs.Records.{layoutOf, marksRefusal, itemsFit, good, putRec}
-use Rattle.blocks.specs.Blocks.{Block, all, blockOf, putRecs, allGood, putBlock}
+use Rattle.blocks.specs.Records.{layoutOf, marksRefusal, putRec}
+use Rattle.blocks.specs.Blocks.{Block, all, blockOf, putRecs, putBlock}
+use Rattle.blocks.proofs.GoodRecords.{itemsFit, good, allGood}
 use Rattle.blocks.specs.Walks.{answerOf, readOf}
 use Rattle.blocks.specs.Meaning.{sevens, recOf}
 use Rattle.blocks.specs.declared.record.Record.{Record}

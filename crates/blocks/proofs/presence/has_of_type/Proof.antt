@@ -3,7 +3,7 @@ use mathlib.Core.Path.{_≡_, ap}
 use mathlib.Core.Bool.{Bool, true, _&&_, not, and-true, and-assoc}
 use borrow.Author.Needs.{needs}
 use borrow.Author.Tests.{ne-eqb}
-use Rattle.blocks.specs.Presence.{meets}
+use Rattle.layouts.specs.Presence.{meets}
 use Rattle.blocks.proofs.presence.has_of_type.Statement.{statement}
 use Rattle.blocks.proofs.presence.has_of_type.Tie as tie
 

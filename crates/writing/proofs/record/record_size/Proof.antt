@@ -8,7 +8,7 @@ use borrow.Author.Needs.{needs}
 use borrow.Author.Tests.{not-true, not-false}
 use Rattle.layouts.specs.Categories.{known}
 use Rattle.items.specs.declared.item.Size.{Size}
-use Rattle.blocks.specs.Presence.{rowsOf, meets}
+use Rattle.layouts.specs.Presence.{rowsOf, meets}
 use Rattle.blocks.specs.Marks.{flagsOf}
 use Rattle.blocks.specs.Meaning.{sevens}
 use Rattle.blocks.specs.declared.record.Record.{Record}

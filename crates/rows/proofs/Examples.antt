@@ -1,4 +1,4 @@
--- Worked examples; a wrong one is refused.
+-- Worked examples of posting, computed; a wrong one is refused. Assumes nothing.
 use mathlib.Core.List.{List, [], _∷_}
 use mathlib.Core.Path.{_≡_, refl}
 use Prim.Native.Nat.{ℕ, _-_, _^_}

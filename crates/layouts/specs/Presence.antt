@@ -67,6 +67,16 @@ rows242 =
 abbrev pub rowsOf : ℕ → List Row
 rowsOf n = pick (eqb n 23) rows23 (pick (eqb n 65) rows65 (pick (eqb n 242) rows242 []))
 
+-- the fields that every record has: mandatory in each of the types 001, 002 and 003
+abbrev pub isM : Need → Bool
+isM M = true
+isM O = false
+isM X = false
+
+abbrev pub mandatory : List Row → List ℕ
+mandatory [] = []
+mandatory (r ∷ rs) = pick (isM (r .need 1) && (isM (r .need 2) && isM (r .need 3))) (r .field ∷ mandatory rs) (mandatory rs)
+
 -- a field that is marked or not, against its need
 abbrev pub met : Need → Bool → Bool
 met M b = b
