@@ -73,7 +73,7 @@ unfolding unmarked marksOf
 none-marks [] = refl
 none-marks (b ∷ bs) = rw (none-marks bs) (sym (same-marks b false (marksOf bs) 0))
 
-none-flags : (n m : ℕ) → m < 2 ^ n → unmarked (flagsOf n m) ≡ eqb m 0
+pub none-flags : (n m : ℕ) → m < 2 ^ n → unmarked (flagsOf n m) ≡ eqb m 0
 unfolding unmarked flagsOf
 none-flags zero m l = sym (eq-eqb m 0 (omega arith))
 none-flags (suc n) m l =

@@ -5,7 +5,7 @@ use mathlib.Core.Logic.{_↔_}
 use mathlib.Core.Path.{_≡_, refl, sym, ap, _∙_}
 use Prim.Native.Nat.{ℕ, zero, suc, _≤_, _<_}
 use native.Mathlib.Omega.{arith}
-use borrow.Author.Tests.{eqb-true, eqb-false, ne-eqb}
+use borrow.Author.Tests.{eqb-true, eqb-false, eq-eqb, ne-eqb}
 use lib.Dec.{eqb}
 use lib.ListN.{length, getD}
 use Rattle.octets.specs.Choice.{pick}
@@ -20,12 +20,13 @@ use Rattle.layouts.specs.Categories.{known, category, layoutAt}
 use Rattle.layouts.specs.declared.form.Form.{Form}
 use Rattle.blocks.specs.Blocks.{Block, wrong, all, blockOf}
 use Rattle.blocks.specs.Marks.{flagsOf}
-use Rattle.blocks.specs.Presence.{rowsOf, meets}
-use Rattle.blocks.specs.Records.{marksSpare}
+use Rattle.layouts.specs.Presence.{rowsOf, meets}
+use Rattle.blocks.specs.Records.{marksSpare, unmarked}
 use Rattle.blocks.specs.Walks.{answerOf, readOf}
 use Rattle.blocks.specs.declared.record.Record.{Record}
 use Rattle.blocks.proofs.BoundaryLaws.{not-accepted, read-filled}
 use Rattle.blocks.proofs.ListedLaws.{read-block}
+use Rattle.blocks.proofs.MarksLaws.{none-flags}
 use Rattle.blocks.proofs.RecordFaults.{marks-zero, zero-marks, spare-at, at-spare}
 use Rattle.writing.specs.Judged.{typeIn, itemsRefusal, markedRefusal, recordRefusal}
 use Rattle.writing.specs.Written.{writeOf, rewriteFrom, rewriteOf}
@@ -80,28 +81,35 @@ module _ (s : List ℕ) (t : Record) (small : t .marks < 4294967296) where
   unfolding recordRefusal
   by-unknown k = rw k
 
+  -- whether a field is marked, by the number
+  no-mark : unmarked marks ≡ eqb (t .marks) 0
+  no-mark = none-flags 32 (t .marks) small
+
   by-none : known (t .category) ≡ true → t .marks ≡ 0 → recordRefusal s t ≡ noneMarked
   unfolding recordRefusal
-  by-none k z = rw (k, z)
+  by-none k z = rw (k, no-mark ∙ eq-eqb (t .marks) 0 z)
 
   module _ (k : known (t .category) ≡ true) (d : t .marks ≡ 0 → ⊥) where
+    some-mark : unmarked marks ≡ false
+    some-mark = no-mark ∙ ne-eqb (t .marks) 0 d
+
     by-spare : marksSpare marks forms ≡ true → recordRefusal s t ≡ spareMarked
     unfolding recordRefusal
-    by-spare f = rw (k, ne-eqb (t .marks) 0 d, f)
+    by-spare f = rw (k, some-mark, f)
 
     module _ (f : marksSpare marks forms ≡ false) where
       by-item : (n : ℕ) → itemsRefusal s t marks forms ≡ n → (n ≡ 0 → ⊥) → recordRefusal s t ≡ n
       unfolding recordRefusal
-      by-item n e z = rw (k, ne-eqb (t .marks) 0 d, f, e, ne-eqb n 0 z)
+      by-item n e z = rw (k, some-mark, f, e, ne-eqb n 0 z)
 
       fine : markedRefusal s t ≡ 0
-      fine = rw (ne-eqb (t .marks) 0 d, f)
+      fine = rw (some-mark, f)
 
       by-present : itemsRefusal s t marks forms ≡ 0
           → (b : Bool) → meets (rowsOf (t .category)) (typeIn (t .category) (t .marks) (t .«message_type»)) marks ≡ b
           → recordRefusal s t ≡ pick b 0 presenceBroken
       unfolding recordRefusal
-      by-present e b h = rw (k, ne-eqb (t .marks) 0 d, f, e, present-by-type s t k small fine, h)
+      by-present e b h = rw (k, some-mark, f, e, present-by-type s t k small fine, h)
 
   -- items by field, and by place in the list of fields
   marked-first : GoodMarks s t → (n : ℕ) → (n ≡ 0 → ⊥) → itemsRefusal s t marks forms ≡ n → FirstFaulty s t n

@@ -18,7 +18,7 @@ use Rattle.blocks.specs.Blocks.{Block, wrong, all, blockOf, putBlock}
 use Rattle.blocks.specs.Boundaries.{Full}
 use Rattle.blocks.specs.Marks.{flagsOf}
 use Rattle.blocks.specs.Meaning.{itemIn, recOf}
-use Rattle.blocks.specs.Presence.{rowsOf, meets}
+use Rattle.layouts.specs.Presence.{rowsOf, meets}
 use Rattle.blocks.specs.Steps.{entryValues}
 use Rattle.blocks.specs.declared.record.Record.{Record}
 use Rattle.writing.specs.Judged.{typeIn}
