@@ -15,10 +15,10 @@ use Rattle.octets.proofs.Cases.{test}
 use Rattle.blocks.specs.declared.walk.Reading.{Reading}
 use Rattle.rows.specs.Rows.{rowOf, lifeOf, addUp}
 use Rattle.rows.specs.Posting.{refused, entries, names, answers, after, ofKey, tally, accepted}
-use Rattle.rows.specs.Order.{times, upto}
+use Rattle.rows.specs.Order.{times, upto, answersInOrder}
 use Rattle.rows.specs.Order as rows
-use Rattle.rows.proofs.Numbers.{map-same, times-upto, place-upto}
-use Rattle.rows.proofs.Theorems.{adding-key, any-order, row-rule}
+use Rattle.rows.proofs.Numbers.{map-same}
+use Rattle.rows.proofs.Theorems.{adding-key, any-order, row-rule, own-order as reports-order}
 use Rattle.ledger.specs.Ledgers.{answer, rowsOf, ledgerOf, keepsRules, Held}
 use Rattle.ledger.specs.Posts.{postOf}
 use Rattle.ledger.specs.Steps.{Kept}
@@ -29,7 +29,7 @@ use Rattle.ledger.proofs.PostTheorems.{posted-is, posted-rows, posted-kept, pos
 use Rattle.feed.specs.Blocks.{reportsOf}
 use Rattle.feed.proofs.BlockTheorems.{block-numbers}
 use Rattle.demands.specs.Contracts.{Reads, Posts}
-use Rattle.demands.specs.Runs.{Sent, nothing, numbered, Run, report, Names, Room, Order, inOrder, answersInOrder}
+use Rattle.demands.specs.Runs.{Sent, nothing, numbered, Run, report, Names, Room, Order, inOrder}
 
 -- A run of posts is a run of its reports over the ledger's rows
 
@@ -69,19 +69,11 @@ at-place (x ∷ xs) (suc i) h = at-place xs i (omega arith)
 module _ (xs : List Sent) (order : List ℕ) (o : Order xs order) where
   within : (i : ℕ) → 1 ≤ times i order → i < length xs
   within i h =
-      test (ltb i (length xs)) (ltb-true i (length xs)) (λ f. absurd (let z : 1 ≤ pick false 1 0 = subst (λ b. 1 ≤ pick b 1 0) f (rw (o .once i) at h) in omega arith))
+      test (ltb i (length xs)) (ltb-true i (length xs))
+      (λ f. absurd (let z : 1 ≤ pick false 1 0 = rw (o .once i, length-map xs report, f) at h in omega arith))
 
   in-order : map report (inOrder order xs) ≡ rows.inOrder order (map report xs)
   in-order = map-twice report (λ i. getD xs i nothing) order ∙ map-same _ _ order (λ i h. sym (at-place xs i (within i h)))
-
-  of-reports : rows.Order (map report xs) order
-  of-reports = record {
-    once = λ i. rw (length-map xs report) (o .once i);
-    keeps = λ i j l h s.
-        let n : length (map report xs) ≡ length xs = length-map xs report in
-        o .keeps i j l (omega arith)
-        (s .0, subst (λ r. names (s .0) (entries r) ≡ true) (at-place xs i (omega arith)) (s .1), subst (λ r. names (s .0) (entries r) ≡ true) (at-place xs j (omega arith)) (s .2));
-  }
 
 -- Two runs of the same reports, in two orders, over a ledger with room: each report gets the same answer, and the ledger ends the same.
 pub same-end : (l : Ledger) → Held l → keepsRules l ≡ true → (xs : List Sent) → Room l xs → (order : List ℕ) → Order xs order
@@ -90,7 +82,7 @@ same-end l held keeps xs room order o ns ms end end' h h' =
     let k = kept-rules l held keeps in
     let a = ran l end xs ns k h in
     let b = ran l end' (inOrder order xs) ms k h' in
-    let same = any-order addUp adding-key (rowsOf l) (map report xs) order (k .good .rises) room (of-reports xs order o) in (
+    let same = any-order addUp adding-key (rowsOf l) (map report xs) order (k .good .rises) room o in (
       b .told ∙ ap (answers addUp (rowsOf l)) (in-order xs order o) ∙ same .answered ∙ ap (answersInOrder order) (sym (a .told)),
       b .kept .rest ∙ ap ledgerOf (b .left ∙ ap (after addUp (rowsOf l)) (in-order xs order o) ∙ same .ended ∙ sym (a .left)) ∙ sym (a .kept .rest),
     )
@@ -124,10 +116,7 @@ some-run l (x ∷ xs) =
 
 -- and every run an order, its own.
 pub own-order : (xs : List Sent) → Order xs (upto (length xs))
-own-order xs = record {
-  once = λ i. times-upto i (length xs);
-  keeps = λ i j h l s. rw (place-upto i (length xs) (omega arith), place-upto j (length xs) l) h;
-}
+own-order xs = subst (λ (n : ℕ). Order xs (upto n)) (length-map xs report) (reports-order (map report xs))
 
 -- A report that is refused for its octets (1 to 11, 17, 13) names no counter.
 pub names-none : (x : Sent) (n : ℕ) → report x ≡ refused n → (k : ℕ) → Names x k → ⊥

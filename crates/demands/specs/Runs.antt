@@ -1,13 +1,11 @@
--- Demand 3 in words: a run of posts, the counters that a report names, another order of a run, and what is the same at the end.
+-- Demand 3 in words: a run of posts, the counters that a report names, room for them, and another order of a run.
 use mathlib.Core.Bool.{true}
 use mathlib.Core.List.{List, [], _∷_, map}
 use mathlib.Core.Path.{_≡_}
-use Prim.Native.Nat.{ℕ, _≤_, _<_}
-use lib.Dec.{ltb}
-use lib.ListN.{length, getD}
-use Rattle.octets.specs.Choice.{pick}
-use Rattle.rows.specs.Posting.{Report, entries, allEntries, names, rowsFor}
-use Rattle.rows.specs.Order.{times, place, upto}
+use Prim.Native.Nat.{ℕ}
+use lib.ListN.{getD}
+use Rattle.rows.specs.Posting.{Report, entries, names, Room as RowsRoom}
+use Rattle.rows.specs.Order.{upto, Order as ReportsOrder}
 use Rattle.ledger.specs.Ledgers.{answer, rowsOf}
 use Rattle.ledger.specs.Reports.{reportOf}
 use Rattle.ledger.specs.declared.Ledger.{Ledger}
@@ -40,22 +38,15 @@ report x = reportOf (x .octets) (x .number)
 abbrev pub Names : Sent → ℕ → Type 0
 Names x k = names k (entries (report x)) ≡ true
 
-abbrev pub Shares : Sent → Sent → Type 0
-Shares x y = (k : ℕ) × Names x k × Names y k
-
 -- Room in a ledger for every counter that a run names, whatever is refused.
 abbrev pub Room : Ledger → List Sent → Type 0
-Room l xs = rowsFor (rowsOf l) (allEntries (map report xs)) ≤ 256
+Room l xs = RowsRoom (rowsOf l) (map report xs)
 
 -- Another order of a run lists the places of its reports, each once and nothing else; of any two that share a counter, the one that comes
 -- first in the run comes first in the order.
-pub record Order (xs : List Sent) (order : List ℕ) : Type 0 where
-  pub once : (i : ℕ) → times i order ≡ pick (ltb i (length xs)) 1 0
-  pub keeps : (i j : ℕ) → i < j → j < length xs → Shares (getD xs i nothing) (getD xs j nothing) → place i order < place j order
+abbrev pub Order : List Sent → List ℕ → Type 0
+Order xs order = ReportsOrder (map report xs) order
 
--- a run in that order, and its answers in that order
+-- a run in that order
 abbrev pub inOrder : List ℕ → List Sent → List Sent
 inOrder order xs = map (λ i. getD xs i nothing) order
-
-abbrev pub answersInOrder : List ℕ → List ℕ → List ℕ
-answersInOrder order ns = map (λ i. getD ns i 0) order
