@@ -1,17 +1,18 @@
 -- What a good header says of the octets, and what holds of every header. Assumes nothing.
-use mathlib.Core.Path.{_≡_, refl}
-use mathlib.Core.Bool.{true, false}
+use mathlib.Core.Path.{_≡_, refl, ap, _∙_}
+use mathlib.Core.Bool.{Bool, true, false}
 use mathlib.Core.List.{List}
 use Prim.Native.Nat.{ℕ, _≤_, _<_}
 use native.Mathlib.Omega.{arith}
 use borrow.Author.Tests.{ltb-true, ltb-false, lt-ltb, le-ltb}
 use lib.Dec.{ltb}
 use lib.ListN.{length, getD}
+use Rattle.octets.specs.Choice.{pick}
 use Rattle.octets.specs.Numbers.{number}
 use Rattle.octets.specs.Refusals.{tooShort, unknownCategory, lenTooSmall}
 use Rattle.octets.proofs.Cases.{choose}
 use Rattle.layouts.specs.Categories.{known}
-use Rattle.blocks.specs.Headers.{headerOf}
+use Rattle.blocks.specs.Headers.{headerOf, headRefused, headGood, listedHead, headListed}
 use Rattle.blocks.specs.declared.header.Head.{Head}
 use Rattle.blocks.specs.declared.header.Head.the-variants.{Good, Refused}
 
@@ -83,3 +84,24 @@ header-good s cat len =
   where
     same : {c l : ℕ} → Headed s c l → c ≡ cat → l ≡ len → Headed s cat len
     same w e f = rw (e, f) at w
+
+-- the definitions list the answer itself
+pub header-listed : (s : List ℕ) → listedHead (headerOf s) ≡ headListed s
+unfolding headerOf headListed
+header-listed s = go (ltb (length s) 3) (known (getD s 0 0)) (ltb (number 2 s 1) 4) (ltb (length s) (number 2 s 1))
+  where
+    go : (a b d e : Bool)
+        → listedHead
+        (pick a (Head.Refused tooShort)
+        (pick b (pick d (Head.Refused lenTooSmall) (pick e (Head.Refused tooShort) (Head.Good (getD s 0 0) (number 2 s 1)))) (Head.Refused unknownCategory)))
+        ≡ pick a (headRefused tooShort)
+        (pick b (pick d (headRefused lenTooSmall) (pick e (headRefused tooShort) (headGood (getD s 0 0) (number 2 s 1)))) (headRefused unknownCategory))
+    go true b d e = refl
+    go false false d e = refl
+    go false true true e = refl
+    go false true false true = refl
+    go false true false false = refl
+
+-- an answer, and its number and values
+pub header-told : (s : List ℕ) (r : Head) → r ≡ headerOf s → (r ≡ headerOf s) × (listedHead r ≡ headListed s)
+header-told s r e = (e, ap listedHead e ∙ header-listed s)

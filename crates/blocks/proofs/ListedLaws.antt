@@ -15,7 +15,7 @@ use Rattle.blocks.specs.Records.{Rec}
 use Rattle.blocks.specs.Blocks.{Block, wrong, all, blockOf}
 use Rattle.blocks.specs.Offsets.{recordAt}
 use Rattle.blocks.specs.Walks.{answerOf, readOf, listedReading, blockListed, readListed}
-use Rattle.blocks.specs.Steps.{takenBy, takeBy, stepFrom, stepBy, entryFrom, entryBy, entryGroupOf, entryValues, stepOf, listedStep, stepListed, foundOf, entryOf, entryRefused, entryFound, listedEntry, entryListed}
+use Rattle.blocks.specs.Steps.{takenBy, takeBy, stepFrom, stepBy, entryFrom, entryBy, entryGroupOf, entryValues, stepOf, listedStep, stepListed, foundOf, entryOf, entryRefused, counterFound, versionFound, entryFound, listedEntry, entryListed}
 use Rattle.blocks.specs.declared.header.Head.{Head}
 use Rattle.blocks.specs.declared.header.Head.the-variants as head
 use Rattle.blocks.specs.declared.record.Record.{Record}
@@ -65,21 +65,23 @@ unfolding stepOf stepListed
 step-listed = step-made listedStep (λ n at. refl) (λ t q. refl)
 
 -- of an entry its values, by either category
-found-listed : (cat : ℕ) (v : List ℕ) → listedEntry (foundOf cat v) ≡ entryFound v
+found-listed : (cat : ℕ) (v : List ℕ) → listedEntry (foundOf cat v) ≡ entryFound cat v
 found-listed cat v = go (eqb cat 242)
   where
-    go : (b : Bool) → listedEntry (pick b (Found.Version (versionOf v)) (Found.Counter (counterOf v))) ≡ entryFound v
+    go : (b : Bool)
+        → listedEntry (pick b (Found.Version (versionOf v)) (Found.Counter (counterOf v)))
+        ≡ pick b (versionFound (versionOf v)) (counterFound (counterOf v))
     go true = refl
     go false = refl
 
 from-listed : (s : List ℕ) (cat at count k : ℕ)
-    → listedEntry (entryFrom Found.Refused foundOf s cat at count k) ≡ entryFrom entryRefused (λ cat v. entryFound v) s cat at count k
+    → listedEntry (entryFrom Found.Refused foundOf s cat at count k) ≡ entryFrom entryRefused entryFound s cat at count k
 from-listed s cat at count k = go (leb count k)
   where
     v : List ℕ
     v = entryValues s (entryGroupOf cat) at k
 
-    go : (b : Bool) → listedEntry (pick b (Found.Refused noSuch 0) (foundOf cat v)) ≡ pick b (entryRefused noSuch 0) (entryFound v)
+    go : (b : Bool) → listedEntry (pick b (Found.Refused noSuch 0) (foundOf cat v)) ≡ pick b (entryRefused noSuch 0) (entryFound cat v)
     go true = refl
     go false = found-listed cat v
 

@@ -4,17 +4,20 @@ use mathlib.Core.List.{List}
 use Prim.Native.Nat.{ℕ, _+_, _*_}
 use lib.Dec.{eqb}
 use Rattle.octets.specs.Choice.{pick}
+use Rattle.octets.specs.Refusals.{notStatistics}
 use Rattle.layouts.specs.Categories.{cat23}
 use Rattle.items.specs.Typed.{counterOf}
 use Rattle.items.specs.declared.typed.Place.{Place}
 use Rattle.items.specs.declared.typed.Service.{Service}
 use Rattle.items.specs.declared.typed.Source.{Source}
 use Rattle.blocks.specs.Marks.{marked}
+use Rattle.blocks.specs.Typed.{absent}
 use Rattle.blocks.specs.Steps.{entryGroupOf, entryValues}
 use Rattle.blocks.specs.declared.record.Record.{Record}
 use Rattle.blocks.specs.declared.statistics.Statistics.{Statistics}
 use Rattle.blocks.specs.declared.statistics.Entry.{Entry}
 use Rattle.blocks.specs.declared.statistics.Seen.{Seen}
+use Rattle.blocks.specs.declared.statistics.Seen.the-variants as seen
 
 -- a statistics report (01 "Refusal numbers", 13): category 23 type 3, with 010 (field 1), 015 (field 3) and 120 (field 9)
 abbrev pub isReport : ℕ → ℕ → ℕ → Bool
@@ -45,3 +48,23 @@ entryOf s at k =
 -- of a record and the next start: a statistics report and its numbers, or another record
 abbrev pub seenOf : Record → ℕ → Seen
 seenOf t next = pick (isStatistics t) (Seen.Report (statisticsOf t) next) (Seen.Other next)
+
+-- The answer's cases, with document 01's number and values: 13 and no numbers for another record
+
+pub record SeenListed : Type 0 where
+  pub number : ℕ
+  pub report : Statistics
+  pub next : ℕ
+
+abbrev pub seenReport : Statistics → ℕ → SeenListed
+seenReport r next = record { number = 0; report = r; next = next }
+
+abbrev pub seenOther : ℕ → SeenListed
+seenOther next = record { number = notStatistics; report = statisticsOf absent; next = next }
+
+abbrev pub listedSeen : Seen → SeenListed
+listedSeen (seen.Report r next) = seenReport r next
+listedSeen (seen.Other next) = seenOther next
+
+abbrev pub seenListed : Record → ℕ → SeenListed
+seenListed t next = pick (isStatistics t) (seenReport (statisticsOf t) next) (seenOther next)

@@ -1,6 +1,6 @@
 -- One step of the cursor, and one entry of a record (01 "Reading order", "Items").
 use mathlib.Core.Bool.{_||_}
-use mathlib.Core.List.{List}
+use mathlib.Core.List.{List, []}
 use Prim.Native.Nat.{ℕ, _+_, _*_, _-_}
 use lib.Dec.{leb, ltb, eqb}
 use lib.ListN.{getD}
@@ -12,6 +12,8 @@ use Rattle.layouts.specs.Formats.{Answer, refused, got}
 use Rattle.layouts.specs.Tables.{counter, version}
 use Rattle.layouts.specs.Categories.{Category, category}
 use Rattle.items.specs.Typed.{counterOf, versionOf}
+use Rattle.items.specs.declared.typed.Counter.{Counter}
+use Rattle.items.specs.declared.typed.Version.{Version}
 use Rattle.blocks.specs.Headers.{headerOf}
 use Rattle.blocks.specs.Records.{Rec}
 use Rattle.blocks.specs.Offsets.{specsAt, recordAt}
@@ -101,24 +103,30 @@ entryIn = entryFrom Found.Refused foundOf
 unfoldable pub entryOf : List ℕ → ℕ → ℕ → Found
 entryOf = entryBy Found.Refused foundOf
 
+-- an entry of 23/120 or of 242/550; the other is all zero
 pub record EntryListed : Type 0 where
   pub number : ℕ
   pub offset : ℕ
-  pub first : ℕ
-  pub second : ℕ
-  pub third : ℕ
+  pub counter : Counter
+  pub version : Version
 
 -- refused: all zero
 abbrev pub entryRefused : ℕ → ℕ → EntryListed
-entryRefused n at = record { number = n; offset = at; first = 0; second = 0; third = 0 }
+entryRefused n at = record { number = n; offset = at; counter = counterOf []; version = versionOf [] }
 
-abbrev pub entryFound : List ℕ → EntryListed
-entryFound v = record { number = 0; offset = 0; first = getD v 0 0; second = getD v 1 0; third = getD v 2 0 }
+abbrev pub counterFound : Counter → EntryListed
+counterFound c = record { number = 0; offset = 0; counter = c; version = versionOf [] }
+
+abbrev pub versionFound : Version → EntryListed
+versionFound v = record { number = 0; offset = 0; counter = counterOf []; version = v }
+
+abbrev pub entryFound : ℕ → List ℕ → EntryListed
+entryFound cat v = pick (eqb cat 242) (versionFound (versionOf v)) (counterFound (counterOf v))
 
 abbrev pub listedEntry : Found → EntryListed
 listedEntry (found.Refused n at) = entryRefused n at
-listedEntry (found.Counter c) = record { number = 0; offset = 0; first = c .typ; second = c .reference; third = c .count }
-listedEntry (found.Version v) = record { number = 0; offset = 0; first = v .category; second = v .main; third = v .sub }
+listedEntry (found.Counter c) = counterFound c
+listedEntry (found.Version v) = versionFound v
 
 unfoldable pub entryListed : List ℕ → ℕ → ℕ → EntryListed
-entryListed = entryBy entryRefused (λ cat v. entryFound v)
+entryListed = entryBy entryRefused entryFound

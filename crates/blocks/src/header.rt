@@ -1,6 +1,6 @@
 // The header of a block: CAT and LEN.
 ghost use mathlib.Core.Path.{_≡_};
-ghost use Rattle.blocks.specs.Headers.{headerOf};
+ghost use Rattle.blocks.specs.Headers.{headerOf, listedHead, headListed};
 use layouts::category::is_known;
 use octets::refusal;
 
@@ -12,7 +12,7 @@ pub enum Head {
 
 // Under 3 octets; category; LEN below 4; LEN beyond the octets lent.
 pub fn header(s: &[u8]) -> Head
-    ensures { λ r. ⌜ r ≡ headerOf (now (s .entry)) ⌝ }
+    ensures { λ r. ⌜ (r ≡ headerOf (now (s .entry))) × (listedHead r ≡ headListed (now (s .entry))) ⌝ }
 {
     if s.len() < 3 {
         return Head::Refused(refusal::TOO_SHORT);

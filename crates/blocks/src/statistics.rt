@@ -3,7 +3,7 @@ ghost use mathlib.Core.Path.{_≡_};
 ghost use Prim.Native.Nat.{_+_, _*_, _≤_, _<_};
 ghost use lib.ListN.{length};
 ghost use Rattle.layouts.specs.Categories.{cat23};
-ghost use Rattle.blocks.specs.Statistics.{isReport, isStatistics, numbersOf, statisticsOf, seenOf, entryOf};
+ghost use Rattle.blocks.specs.Statistics.{isReport, isStatistics, numbersOf, statisticsOf, seenOf, listedSeen, seenListed, entryOf};
 ghost use Rattle.blocks.specs.Steps.{takeOf, entryGroupOf};
 ghost use Rattle.blocks.specs.declared.cursor.Cursor.{Cursor};
 ghost use Rattle.blocks.specs.declared.cursor.Step.{Step};
@@ -108,7 +108,7 @@ pub fn counter(s: &[u8], at: usize, k: usize) -> Entry
 // layer, which judges a block once; what a step takes there is what is seen.
 pub fn see(s: &[u8], len: usize, at: usize) -> Seen
     requires { ⌜ (at < len) × (len ≤ length (now s)) ⌝ }
-    ensures { λ r. ⌜ ((t : Record) → (c : Cursor) → takeOf (now (s .entry)) len (cat23 .number) at ≡ Step.Taken t c → r ≡ seenOf t (c .at)) ⌝ }
+    ensures { λ r. ⌜ ((t : Record) → (c : Cursor) → takeOf (now (s .entry)) len (cat23 .number) at ≡ Step.Taken t c → (r ≡ seenOf t (c .at)) × (listedSeen r ≡ seenListed t (c .at))) ⌝ }
 {
     let starts = starts_at(s, len, Cat23::NUMBER, at);
     let items = starts.items;

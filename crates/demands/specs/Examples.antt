@@ -3,7 +3,7 @@ use mathlib.Core.List.{List, [], _∷_}
 use Prim.Native.Nat.{ℕ}
 use Rattle.blocks.specs.Walks.{ReadListed, readRefused, readAccepted, readListed}
 use Rattle.blocks.specs.Typed.{nowhere}
-use Rattle.blocks.specs.Steps.{StepListed, stepRefused, stepTaken, stepListed, EntryListed, entryRefused, entryFound, entryListed}
+use Rattle.blocks.specs.Steps.{StepListed, stepRefused, stepTaken, stepListed, EntryListed, entryRefused, counterFound, versionFound, entryListed}
 use Rattle.blocks.specs.declared.record.Record.{Record}
 use Rattle.rows.specs.Rows.{Row}
 use Rattle.ledger.specs.Ledgers.{answer, ledgerOf}
@@ -161,7 +161,7 @@ examples =
     -- P5: 10
     ∷ record { octets = 0x41 ∷ 0x00 ∷ 0x0B ∷ 0xF0 ∷ 0x01 ∷ 0x02 ∷ 0x02 ∷ 0x07 ∷ 0x00 ∷ 0x00 ∷ 0x80 ∷ []; answers = refused 10 }
     -- P6: 0, category 23 version 1.2; sub version 64: 11
-    ∷ record { octets = p6Octets; answers = accepted 13 versionRecord (entryFound (23 ∷ 1 ∷ 2 ∷ [])) p6Octets }
+    ∷ record { octets = p6Octets; answers = accepted 13 versionRecord (versionFound (record { category = 23; main = 1; sub = 2 })) p6Octets }
     ∷ record {
       octets = 0xF2 ∷ 0x00 ∷ 0x0D ∷ 0xE0 ∷ 0x01 ∷ 0x02 ∷ 0x00 ∷ 0x00 ∷ 0x00 ∷ 0x01 ∷ 0x17 ∷ 0x01 ∷ 0x64 ∷ [];
       answers = refused 11;
@@ -173,6 +173,6 @@ examples =
     ∷ record {
       octets = p8Octets;
       answers =
-          posted 0 (record { key = 0x01021204; life = 100; reading = 100 } ∷ []) 19 statisticsRecord (entryFound (4 ∷ 0 ∷ 100 ∷ [])) p8Octets;
+          posted 0 (record { key = 0x01021204; life = 100; reading = 100 } ∷ []) 19 statisticsRecord (counterFound (record { typ = 4; reference = 0; count = 100 })) p8Octets;
     }
     ∷ []

@@ -1,7 +1,7 @@
 -- What each door answers, and what it leaves in the cells and the output that were lent to it.
 use mathlib.Core.Bool.{Bool}
 use mathlib.Core.List.{List, [], _∷_}
-use Prim.Native.Nat.{ℕ}
+use Prim.Native.Nat.{ℕ, _+_}
 use lib.Dec.{ltb, eqb}
 use lib.ListN.{length}
 use Rattle.octets.specs.Choice.{pick}
@@ -36,8 +36,12 @@ readCells r = r .offset ∷ r .len ∷ r .count ∷ []
 abbrev pub stepCells : StepListed → List ℕ
 stepCells r = r .offset ∷ r .next ∷ recordCells (r .taken)
 
+-- TYPE, REF and count, or category, main and sub version: of the two kinds one is all zero
 abbrev pub entryCells : EntryListed → List ℕ
-entryCells r = r .offset ∷ r .first ∷ r .second ∷ r .third ∷ []
+entryCells r =
+    let c = r .counter in
+    let v = r .version in
+    r .offset ∷ (c .typ + v .category) ∷ (c .reference + v .main) ∷ (c .count + v .sub) ∷ []
 
 -- Where an output is lent: the number, the output, and the cell of its length
 

@@ -167,6 +167,7 @@ module _ (s : List ℕ) (len n : ℕ) (o : Octets s) (h : readOf s ≡ Reading.A
       of-first =
           sees (f .one) (record { at = f .next })
           (ap (λ c. takeOf s len c at) (sym is-23) ∙ accepted-step s len n o h at (w .low) more ∙ f .taken)
+          .0
 
       forward : at < f .next
       forward = accepted-forward s len n o h at (f .one) (record { at = f .next }) (f .taken) .1

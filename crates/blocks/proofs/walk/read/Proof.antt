@@ -25,13 +25,13 @@ read-spec =
     (λ c. search needs)
     (λ c κs.
     let h = c .before .before .before in
-    let w = header-good _ _ _ (sym (h .header .ensures) ∙ c .before .head2 .given .1) in
+    let w = header-good _ _ _ (sym (h .header .ensures .0) ∙ c .before .head2 .given .1) in
     (omega (arith, w .least), w .fits, w .known))
     (λ c.
     let h = c .before .before .before in
-    let e = sym (h .header .ensures) ∙ c .before .head .given .1 in
+    let e = sym (h .header .ensures .0) ∙ c .before .head .given .1 in
     read-by _ _ (sym (read-refused _ _ e)))
     (λ c.
     let h = c .before .before .before .before in
-    let e = sym (h .header .ensures) ∙ c .before .before .head2 .given .1 in
+    let e = sym (h .header .ensures .0) ∙ c .before .before .head2 .given .1 in
     read-by _ _ (c .read-records .ensures ∙ sym (read-good _ _ _ e))))

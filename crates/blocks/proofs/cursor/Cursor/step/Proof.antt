@@ -20,25 +20,25 @@ returns : tie.Need-returns
 returns c =
     let k = c .before in
     let h = k .before .before .before in
-    told _ _ _ (step-low _ _ _ _ (sym (k .before .head2 .given .1) ∙ h .header .ensures) (c .if1 .taken))
+    told _ _ _ (step-low _ _ _ _ (sym (k .before .head2 .given .1) ∙ h .header .ensures .0) (c .if1 .taken))
 
 returns-2 : tie.Need-returns-2
 returns-2 c =
     let k = c .before .before in
     let h = k .before .before .before in
-    told _ _ _ (step-past _ _ _ _ (sym (k .before .head2 .given .1) ∙ h .header .ensures) (c .before .if1 .left) (c .if2 .taken))
+    told _ _ _ (step-past _ _ _ _ (sym (k .before .head2 .given .1) ∙ h .header .ensures .0) (c .before .if1 .left) (c .if2 .taken))
 
 returns-3 : tie.Need-returns-3
 returns-3 c =
     let h = c .before .before .before in
-    told _ _ _ (step-refused _ _ _ (sym (c .before .head .given .1) ∙ h .header .ensures))
+    told _ _ _ (step-refused _ _ _ (sym (c .before .head .given .1) ∙ h .header .ensures .0))
 
 returns-4 : tie.Need-returns-4
 returns-4 c =
     let k = c .before .before .before in
     let h = k .before .before .before in
     told _ _ _
-    (step-inside _ _ _ _ (sym (k .before .head2 .given .1) ∙ h .header .ensures) (c .before .before .if1 .left) (c .before .if2 .left)
+    (step-inside _ _ _ _ (sym (k .before .head2 .given .1) ∙ h .header .ensures .0) (c .before .before .if1 .left) (c .before .if2 .left)
     _ (c .take .ensures))
 
 pub step-spec : {M : Type 1} → statement M
@@ -53,7 +53,7 @@ step-spec =
     (λ c κs.
     let k = c .before .before in
     let h = k .before .before .before in
-    let w = header-good _ _ _ (sym (h .header .ensures) ∙ k .before .head2 .given .1) in
+    let w = header-good _ _ _ (sym (h .header .ensures .0) ∙ k .before .head2 .given .1) in
     (omega arith, w .fits, w .known))
     returns-3
     returns-4)
