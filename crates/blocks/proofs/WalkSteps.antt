@@ -1,7 +1,7 @@
 -- One step of each walk: what the definitions say of the case that a branch of the code is in. Only these unfold them.
 -- Assumes nothing.
-use mathlib.Core.Path.{_≡_, refl, sym, ap, _∙_, subst}
-use mathlib.Core.Bool.{Bool, true, false, _&&_, _||_, false≢true, true≢false, and-false}
+use mathlib.Core.Path.{_≡_, refl, sym, _∙_, subst}
+use mathlib.Core.Bool.{Bool, true, false, _&&_, _||_, false≢true, true≢false}
 use mathlib.Core.List.{List, [], _∷_, _++_}
 use Prim.Native.Nat.{ℕ, zero, suc, _+_, _-_, _*_, _≤_, _<_}
 use native.Mathlib.Nat.{sub-self}
@@ -13,9 +13,8 @@ use lib.Seq.{drop-nil, drop-drop, drop-cons, getD-drop}
 use Rattle.octets.specs.Choice.{pick}
 use Rattle.octets.specs.Numbers.{Octets, number}
 use Rattle.octets.specs.Refusals.{longSpecification, spareMarked, noneMarked, presenceBroken}
-use Rattle.octets.proofs.Cases.{choose, neither}
-use Rattle.layouts.specs.Groups.{values}
-use Rattle.layouts.specs.Formats.{Answer, refused, got, andThen, Format, done, Trace, fitsIn}
+use Rattle.octets.proofs.Cases.{neither}
+use Rattle.layouts.specs.Formats.{Answer, refused, got, andThen, Format, Trace, fitsIn}
 use Rattle.layouts.specs.Offsets.{runAt, itemAt, traceAt}
 use Rattle.layouts.specs.Layouts.{Layout, unused, fixed, extended, repeated, explicit, isUnused, chain, counted, format}
 use Rattle.layouts.specs.Ends.{endOf, chainEnd}
@@ -23,7 +22,6 @@ use Rattle.layouts.specs.Tables.{layout}
 use Rattle.layouts.specs.Categories.{Category, known, category, formAt}
 use Rattle.layouts.proofs.Answers.{got-refused, pick-yes, through}
 use Rattle.layouts.proofs.Windows.{run-trace, run-within}
-use Rattle.layouts.proofs.KindEnds.{end-then}
 use Rattle.layouts.specs.declared.ends.End.{End}
 use Rattle.layouts.specs.declared.ends.End.the-variants.{At, Refused}
 use Rattle.layouts.specs.declared.form.Form.{Form}
@@ -48,24 +46,19 @@ by-known P a b c n h = go (eqb n 23) (eqb n 65) (eqb n 242) refl refl refl h
     go false false true e f g h = subst P (sym (eqb-true n 242 g)) c
     go false false false e f g h = absurd (false≢true h)
 
--- the last of the three
-pub known-last : (n : ℕ) → known n ≡ true → (n ≡ 23 → ⊥) → (n ≡ 65 → ⊥) → n ≡ 242
-known-last = by-known (λ (n : ℕ). (n ≡ 23 → ⊥) → (n ≡ 65 → ⊥) → n ≡ 242) (λ a b. absurd (a refl)) (λ a b. absurd (b refl)) (λ a b. refl)
-
--- what the walks need of a category: seven fields to each of one or two specification octets, and items 010 and 000 first
+-- what the walks need of a category: seven fields to each of one or two specification octets
 pub record Table (n : ℕ) (c : Category) : Type 0 where
   pub number : c .number ≡ n
   pub long : length (c .fields) ≡ c .most * 7
   pub some : 1 ≤ c .most
   pub few : c .most ≤ 2
-  pub typed : eqb n 242 ≡ false → c .fields ≡ Form.Source ∷ Form.MessageType ∷ drop 2 (c .fields)
 
 pub table : (n : ℕ) → known n ≡ true → Table n (category n)
 table =
     by-known (λ (n : ℕ). Table n (category n))
-    (record { number = refl; long = refl; some = omega arith; few = omega arith; typed = λ h. refl })
-    (record { number = refl; long = refl; some = omega arith; few = omega arith; typed = λ h. refl })
-    (record { number = refl; long = refl; some = omega arith; few = omega arith; typed = λ h. absurd (true≢false h) })
+    (record { number = refl; long = refl; some = omega arith; few = omega arith })
+    (record { number = refl; long = refl; some = omega arith; few = omega arith })
+    (record { number = refl; long = refl; some = omega arith; few = omega arith })
 
 -- the answer that has an end
 module _ {A : Type 0} where

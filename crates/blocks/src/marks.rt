@@ -23,7 +23,7 @@ fn octet_marks(x: u8) -> u32
         + x / 2 % 2 * 64) as u32
 }
 
-// The marks in n specification octets from an offset, at most four.
+// The marks in n specification octets from an offset. Only for the next layer: at most four, and they lie in the slice.
 pub fn marks_at(s: &[u8], at: usize, n: usize) -> u32
     requires { ⌜ (at + n ≤ length (now s)) × (n ≤ 4) ⌝ }
     ensures { λ r. ⌜ r ≡ marksOf (flags (groupsOf n (now (s .entry)) at)) ⌝ }
@@ -37,7 +37,7 @@ pub fn marks_at(s: &[u8], at: usize, n: usize) -> u32
     m
 }
 
-// Whether a field is marked.
+// Whether a field is marked. Only for the next layer: a field from 1 to 32.
 pub fn is_marked(marks: u32, field: usize) -> bool
     requires { ⌜ (1 ≤ field) × (field ≤ 32) ⌝ }
     ensures { λ r. ⌜ r ≡ getD (flagsOf 32 marks) (field - 1) false ⌝ }

@@ -45,14 +45,16 @@ pub struct Entry {
     pub count: u32,
 }
 
-// The type of a statistics report.
+// The category that statistics reports are of, and their type.
+pub const CATEGORY: u8 = Cat23::NUMBER;
+
 const STATISTICS: u8 = 3;
 
 // Whether a record is a statistics report: its category, its type, and the marks of 010, 015 and 120.
 fn is_report(category: u8, message_type: u8, marks: u32) -> bool
     ensures { λ r. ⌜ r ≡ isReport category «message_type» marks ⌝ }
 {
-    (category == Cat23::NUMBER)
+    (category == CATEGORY)
         & (message_type == STATISTICS)
         & is_marked(marks, 1)
         & is_marked(marks, 3)

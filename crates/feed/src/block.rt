@@ -12,6 +12,7 @@ ghost use Rattle.feed.specs.Totals.{acceptedOne};
 use crate::totals::Totals;
 use crate::totals::counted;
 use crate::totals::with_accepted;
+use blocks::statistics::CATEGORY;
 use blocks::statistics::Seen;
 use blocks::statistics::see;
 use blocks::walk::Reading;
@@ -75,7 +76,7 @@ pub fn post_block(
         × (r ≡ acceptedOne totals (answers addUp (rowsOf (columns (now (count .entry)) (now (keys .entry)) (now (lives .entry)) (now (readings .entry)))) (reportsOf (now (s .entry))))) ⌝ }
 {
     let number = s[0];
-    if number != 23 {
+    if number != CATEGORY {
         return with_accepted(totals);
     }
     let mut after = totals;

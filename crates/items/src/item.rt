@@ -391,7 +391,7 @@ pub fn pass(s: &[u8], len: usize, at: usize, field: Field) -> End
     }
 }
 
-// Typed items at an offset; from the slice's end on, zeros. Only for the next layer: the offset lies in the slice.
+// Typed items at an offset; from the slice's end on, zeros. Only for the next layer, as all that follow: the offset lies in the slice.
 pub fn source_at(s: &[u8], at: usize) -> Source
     requires { ⌜ at ≤ length (now s) ⌝ }
     ensures { λ r. ⌜ r ≡ sourceOf (traceAt (format (layout Form.Source)) (now (s .entry)) at) ⌝ }
@@ -401,6 +401,7 @@ pub fn source_at(s: &[u8], at: usize) -> Source
     crate::values::source_of(octets::read(s, at, first_octets(kind)))
 }
 
+// Only for the next layer: as source_at.
 pub fn service_at(s: &[u8], at: usize) -> Service
     requires { ⌜ at ≤ length (now s) ⌝ }
     ensures { λ r. ⌜ r ≡ serviceOf (traceAt (format (layout Form.Service)) (now (s .entry)) at) ⌝ }
@@ -408,6 +409,7 @@ pub fn service_at(s: &[u8], at: usize) -> Service
     crate::values::service_of(octets::octet(s, at, 0))
 }
 
+// Only for the next layer: as source_at.
 pub fn time_at(s: &[u8], at: usize) -> TimeOfDay
     requires { ⌜ at ≤ length (now s) ⌝ }
     ensures { λ r. ⌜ r ≡ timeOf (traceAt (format (layout Form.Time)) (now (s .entry)) at) ⌝ }
@@ -415,6 +417,7 @@ pub fn time_at(s: &[u8], at: usize) -> TimeOfDay
     TimeOfDay(octets::read3(s, at))
 }
 
+// Only for the next layer: as source_at.
 pub fn sdps_at(s: &[u8], at: usize) -> Sdps
     requires { ⌜ at ≤ length (now s) ⌝ }
     ensures { λ r. ⌜ r ≡ sdpsOf (traceAt (format (layout Form.Sdps)) (now (s .entry)) at) ⌝ }
@@ -422,6 +425,7 @@ pub fn sdps_at(s: &[u8], at: usize) -> Sdps
     crate::values::sdps_of(octets::octet(s, at, 0))
 }
 
+// Only for the next layer: as source_at.
 pub fn station_at(s: &[u8], at: usize) -> Station
     requires { ⌜ at ≤ length (now s) ⌝ }
     ensures { λ r. ⌜ r ≡ stationOf (traceAt (format (layout Form.Station)) (now (s .entry)) at) ⌝ }
@@ -432,6 +436,7 @@ pub fn station_at(s: &[u8], at: usize) -> Station
     crate::values::station_of(first, extension_at(s, at, kind, first))
 }
 
+// Only for the next layer: as source_at.
 pub fn configuration_at(s: &[u8], at: usize) -> Configuration
     requires { ⌜ at ≤ length (now s) ⌝ }
     ensures { λ r. ⌜ r ≡ configurationOf (traceAt (format (layout Form.Configuration)) (now (s .entry)) at) ⌝ }
@@ -442,7 +447,7 @@ pub fn configuration_at(s: &[u8], at: usize) -> Configuration
     crate::values::configuration_of(first, extension_at(s, at, kind, first))
 }
 
-// An item of one octet that is one value.
+// An item of one octet that is one value. Only for the next layer: as source_at.
 pub fn octet_at(s: &[u8], at: usize) -> u8
     requires { ⌜ at ≤ length (now s) ⌝ }
     ensures { λ r. ⌜ r ≡ val (traceAt (format (Layout.fixed octet)) (now (s .entry)) at) 0 0 ⌝ }
@@ -450,6 +455,7 @@ pub fn octet_at(s: &[u8], at: usize) -> u8
     (octets::octet(s, at, 0) % 256) as u8
 }
 
+// Only for the next layer: as source_at.
 pub fn status_at(s: &[u8], at: usize) -> u8
     requires { ⌜ at ≤ length (now s) ⌝ }
     ensures { λ r. ⌜ r ≡ val (traceAt (format (layout Form.Status)) (now (s .entry)) at) 0 0 ⌝ }
@@ -457,7 +463,7 @@ pub fn status_at(s: &[u8], at: usize) -> u8
     (octets::octet(s, at, 0) / 2 % 8) as u8
 }
 
-// Where entries or content lie, whose count octet has extra more; nowhere from the slice's end on.
+// Where entries or content lie, whose count octet has extra more; nowhere from the slice's end on. Only for the next layer: as source_at.
 pub fn place_at(s: &[u8], at: usize, extra: usize) -> Place
     requires { ⌜ at ≤ length (now s) ⌝ }
     ensures { λ r. ⌜ r ≡ placeAt (now (s .entry)) at extra ⌝ }

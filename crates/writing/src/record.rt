@@ -211,7 +211,7 @@ fn put_items(out: &mut [u8], at: usize, record: Record, source: &[u8]) -> usize
     p
 }
 
-// Writes a record that is not refused in normal form, and gives the offset behind it.
+// Writes a record in normal form, and gives the offset behind it. Only for the next layer: the record is not refused, and its octets lie in the output.
 pub fn put_record(out: &mut [u8], at: usize, record: Record, source: &[u8]) -> usize
     requires { ⌜ (recordRefusal (now source) «record» ≡ 0) × (at + length (recordOctets (now source) «record») ≤ length (now out)) ⌝ }
     ensures { λ r. ⌜ (now (out .exit) ≡ laid (now (out .entry)) at (recordOctets (now (source .entry)) «record»)) × (r ≡ at + length (recordOctets (now (source .entry)) «record»)) ⌝ }
