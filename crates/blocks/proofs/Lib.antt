@@ -30,3 +30,4 @@ pub mod RecordStarts
 pub mod TypedOctets
 pub mod TakenLaws
 pub mod SeenLaws
+pub mod SmallLaws

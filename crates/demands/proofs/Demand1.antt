@@ -20,10 +20,11 @@ use Rattle.blocks.specs.declared.header.Head.{Head}
 use Rattle.blocks.proofs.BoundaryLaws.{read-filled, filled-read, read-stopped}
 use Rattle.writing.specs.Written.{writeOf, rewriteOf}
 use Rattle.octets.specs.declared.output.Written.{Written}
-use Rattle.ledger.specs.Ledgers.{answer, rowsOf, ledgerOf, keepsRules, Held}
-use Rattle.ledger.specs.Pages.{pageOf, storeOf, headKeeps, ledgerIn, loadOf}
+use Rattle.ledger.specs.Ledgers.{answer, rowsOf, cellsOf, keepsRules, Held}
+use Rattle.ledger.specs.Pages.{pageOf, storeOf, headKeeps, cellsIn, loadOf}
 use Rattle.ledger.specs.declared.Answer.{Answer}
 use Rattle.ledger.specs.declared.Ledger.{Ledger}
+use Rattle.ledger.proofs.CellLaws.{ledger-same}
 use Rattle.ledger.proofs.PageTheorems.{store-load, load-store}
 use Rattle.ledger.proofs.PostTheorems.{posted-same}
 use Rattle.demands.specs.Contracts.{Reads, Writes, Rewrites, Posts, Loads, Stores}
@@ -54,49 +55,51 @@ pub refused-rewriting : (s l out : List ℕ) (n : ℕ) → Rewrites s l out (Wri
 refused-rewriting s l out n h = refused-same (rewriteOf s) l out n (h .0) (h .1)
 
 pub refused-storing : (l : Ledger) (o out : List ℕ) (n : ℕ) → Stores l o out (Written.Refused n) → out ≡ o
-refused-storing l o out n h = refused-same (storeOf l) o out n (h .0) (h .1)
+refused-storing l o out n h = refused-same (storeOf (l .cells)) o out n (h .0) (h .1)
 
 -- What a post is answered, and when: the first of document 01's checks that it fails (specs/Verdicts.antt).
-pub posted-verdict : (l : Ledger) (s : List ℕ) (k n : ℕ) (m : Ledger) → Octets s → Posts l s k (answer n m) → Verdict l s k n
+pub posted-verdict : (l : Ledger) (s : List ℕ) (k n : ℕ) (m : Ledger) → Octets s → Posts l s k (answer n (m .cells)) → Verdict l s k n
 posted-verdict l s k n m o h = verdict l s k n o m h
 
 -- A refused post gives the ledger back unchanged, whichever entry refused it.
-pub refused-posting : (l : Ledger) → Held l → (s : List ℕ) (k n : ℕ) (m : Ledger) → Posts l s k (answer n m) → (n ≡ 0 → ⊥) → m ≡ l
+pub refused-posting : (l : Ledger) → Held (l .cells) → (s : List ℕ) (k n : ℕ) (m : Ledger) → Posts l s k (answer n (m .cells)) → (n ≡ 0 → ⊥)
+    → m ≡ l
 refused-posting l held s k n m h not-0 =
-    ap (λ (a : Answer). a .ledger) h ∙ posted-same s k l held (λ e. not-0 (ap (λ (a : Answer). a .number) h ∙ e))
+    ap (λ (a : Answer). a .ledger) h ∙ ledger-same (posted-same s k (l .cells) held (λ e. not-0 (ap (λ (a : Answer). a .number) h ∙ e)))
 
 puts-same : {xs ys : List ℕ} → puts xs ≡ puts ys → xs ≡ ys
 puts-same h = cc
 
-store-page : (l : Ledger) (xs : List ℕ) → storeOf l ≡ puts xs → (keepsRules l ≡ true) × (xs ≡ pageOf (rowsOf l))
+store-page : (l : Ledger) (xs : List ℕ) → storeOf (l .cells) ≡ puts xs → (keepsRules (l .cells) ≡ true) × (xs ≡ pageOf (rowsOf (l .cells)))
 unfolding storeOf
 store-page l xs h =
-    test (keepsRules l) (λ t. (t, puts-same (sym h ∙ rw t)))
+    test (keepsRules (l .cells)) (λ t. (t, puts-same (sym h ∙ rw t)))
     (λ f. let z : no rulesBroken ≡ puts xs = rw f at h in let e : _≡_ {A = ℕ} 0 1 = cc in absurd (omega arith))
 
 -- A refused load gives 16 and a fresh ledger.
-load-cases : (P : Answer → Type 0) (s : List ℕ) → P (answer 0 (ledgerIn s)) → P (answer rulesBroken (ledgerOf [])) → P (loadOf s)
+load-cases : (P : Answer → Type 0) (s : List ℕ) → P (answer 0 (cellsIn s)) → P (answer rulesBroken (cellsOf [])) → P (loadOf s)
 unfolding loadOf
-load-cases P s a b = test (headKeeps s && keepsRules (ledgerIn s)) (λ t. rw t a) (λ f. rw f b)
+load-cases P s a b = test (headKeeps s && keepsRules (cellsIn s)) (λ t. rw t a) (λ f. rw f b)
 
-pub refused-loading : (s : List ℕ) (n : ℕ) (l : Ledger) → Loads s (answer n l) → (n ≡ 0 → ⊥) → (n ≡ rulesBroken) × (l ≡ ledgerOf [])
+pub refused-loading : (s : List ℕ) (n : ℕ) (l : Ledger) → Loads s (answer n (l .cells)) → (n ≡ 0 → ⊥)
+    → (n ≡ rulesBroken) × (l .cells ≡ cellsOf [])
 refused-loading s n l h =
-    load-cases (λ (a : Answer). answer n l ≡ a → (n ≡ 0 → ⊥) → (n ≡ rulesBroken) × (l ≡ ledgerOf [])) s
+    load-cases (λ (a : Answer). answer n (l .cells) ≡ a → (n ≡ 0 → ⊥) → (n ≡ rulesBroken) × (l .cells ≡ cellsOf [])) s
     (λ e not-0. absurd (not-0 (ap (λ (a : Answer). a .number) e)))
-    (λ e not-0. (ap (λ (a : Answer). a .number) e, ap (λ (a : Answer). a .ledger) e)) h
+    (λ e not-0. (ap (λ (a : Answer). a .number) e, ap (λ (a : Answer). a .ledger .cells) e)) h
 
 -- Load after store gives the ledger back: of the n octets that were stored,
-pub stored-loaded : (l : Ledger) → Held l → (o out : List ℕ) (n : ℕ) → Stores l o out (Written.Octets n)
-    → (r : Answer) → Loads (take n out) r → r ≡ answer 0 l
+pub stored-loaded : (l : Ledger) → Held (l .cells) → (o out : List ℕ) (n : ℕ) → Stores l o out (Written.Octets n)
+    → (r : Answer) → Loads (take n out) r → r ≡ answer 0 (l .cells)
 stored-loaded l held o out n h r e =
-    let w = written-laid (storeOf l) o out n (h .0) (h .1) in
+    let w = written-laid (storeOf (l .cells)) o out n (h .0) (h .1) in
     let p = store-page l (w .xs) (w .is) in
-    e ∙ ap loadOf (ap (take n) (w .same) ∙ take-at (w .xs) (drop n o) n (sym (w .long)) ∙ p .1) ∙ store-load l held (p .0)
+    e ∙ ap loadOf (ap (take n) (w .same) ∙ take-at (w .xs) (drop n o) n (sym (w .long)) ∙ p .1) ∙ store-load (l .cells) held (p .0)
 
 -- and store after load the octets.
-pub loaded-stored : (s : List ℕ) → Octets s → (l : Ledger) → Loads s (answer 0 l)
+pub loaded-stored : (s : List ℕ) → Octets s → (l : Ledger) → Loads s (answer 0 (l .cells))
     → (o out : List ℕ) (n : ℕ) → Stores l o out (Written.Octets n) → take n out ≡ s
 loaded-stored s okay l h o out n e =
-    let w = written-laid (storeOf l) o out n (e .0) (e .1) in
-    let same : w .xs ≡ s = puts-same (sym (w .is) ∙ load-store s okay l (sym h)) in
+    let w = written-laid (storeOf (l .cells)) o out n (e .0) (e .1) in
+    let same : w .xs ≡ s = puts-same (sym (w .is) ∙ load-store s okay (l .cells) (sym h)) in
     ap (take n) (w .same) ∙ take-at (w .xs) (drop n o) n (sym (w .long)) ∙ same

@@ -11,8 +11,8 @@ use Rattle.octets.specs.Outcomes.{no, puts}
 use Rattle.octets.specs.Refusals.{rulesBroken}
 use Rattle.octets.specs.declared.output.Written.{Written}
 use Rattle.octets.proofs.Cases.{test, choose}
-use Rattle.ledger.specs.Ledgers.{answer, rowsOf, ledgerOf, keepsRules}
-use Rattle.ledger.specs.Pages.{pageOf, storeOf, headKeeps, ledgerIn, loadOf}
+use Rattle.ledger.specs.Ledgers.{answer, rowsOf, cellsOf, keepsRules}
+use Rattle.ledger.specs.Pages.{pageOf, storeOf, headKeeps, cellsIn, loadOf}
 use Rattle.ledger.specs.declared.Answer.{Answer}
 use Rattle.ledger.specs.declared.Ledger.{Ledger}
 use Rattle.ledger.proofs.PageLaws.{head-says}
@@ -33,13 +33,13 @@ module _ (s : List ℕ) where
   -- octets are a page, or not
   page-or-not : {P : Type 0} → (Page s → P) → (NoPage s → P) → P
   page-or-not good bad =
-      test (headKeeps s) (λ t. test (keepsRules (ledgerIn s)) (λ u. good (t, u)) (λ f. bad (inr (t, f)))) (λ f. bad (inl f))
+      test (headKeeps s) (λ t. test (keepsRules (cellsIn s)) (λ u. good (t, u)) (λ f. bad (inr (t, f)))) (λ f. bad (inl f))
 
-  load-page : Page s → loadOf s ≡ answer 0 (ledgerIn s)
+  load-page : Page s → loadOf s ≡ answer 0 (cellsIn s)
   unfolding loadOf
   load-page p = rw (p .0, p .1)
 
-  load-none : NoPage s → loadOf s ≡ answer rulesBroken (ledgerOf [])
+  load-none : NoPage s → loadOf s ≡ answer rulesBroken (cellsOf [])
   unfolding loadOf
   load-none (inl f) = rw f
   load-none (inr w) = rw (w .0, w .1)
@@ -52,7 +52,7 @@ module _ (s : List ℕ) where
       λ w. ap (λ (a : Answer). a .number) (h ∙ load-none w),
     )
 
-    pub load-fresh : NoPage s → r ≡ answer rulesBroken (ledgerOf [])
+    pub load-fresh : NoPage s → r ≡ answer rulesBroken (cellsOf [])
     load-fresh w = h ∙ load-none w
 
     -- "0: accepted": a page, and its ledger.
@@ -62,7 +62,7 @@ module _ (s : List ℕ) where
       λ p. ap (λ (a : Answer). a .number) (h ∙ load-page p),
     )
 
-    pub load-ledger : Page s → r ≡ answer 0 (ledgerIn s)
+    pub load-ledger : Page s → r ≡ answer 0 (cellsIn s)
     load-ledger p = h ∙ load-page p
 
     -- no other number answers a load
@@ -72,25 +72,26 @@ module _ (s : List ℕ) where
 -- Storing
 
 module _ (l : Ledger) where
-  store-no : (n : ℕ) → (storeOf l ≡ no n) ↔ ((keepsRules l ≡ false) × (n ≡ rulesBroken))
+  store-no : (n : ℕ) → (storeOf (l .cells) ≡ no n) ↔ ((keepsRules (l .cells) ≡ false) × (n ≡ rulesBroken))
   unfolding storeOf
   store-no n =
-      choose (λ x. (x ≡ no n) ↔ ((keepsRules l ≡ false) × (n ≡ rulesBroken))) (keepsRules l)
+      choose (λ x. (x ≡ no n) ↔ ((keepsRules (l .cells) ≡ false) × (n ≡ rulesBroken))) (keepsRules (l .cells))
       (λ t. (λ e. absurd (not-puts (sym e)), λ w. absurd (false≢true (sym (w .0) ∙ t))))
       (λ f. (λ e. (f, sym (no-same e)), λ w. ap no (sym (w .1))))
 
-  store-puts : (xs : List ℕ) → (storeOf l ≡ puts xs) ↔ ((keepsRules l ≡ true) × (pageOf (rowsOf l) ≡ xs))
+  store-puts : (xs : List ℕ) → (storeOf (l .cells) ≡ puts xs) ↔ ((keepsRules (l .cells) ≡ true) × (pageOf (rowsOf (l .cells)) ≡ xs))
   unfolding storeOf
   store-puts xs =
-      choose (λ x. (x ≡ puts xs) ↔ ((keepsRules l ≡ true) × (pageOf (rowsOf l) ≡ xs))) (keepsRules l)
+      choose (λ x. (x ≡ puts xs) ↔ ((keepsRules (l .cells) ≡ true) × (pageOf (rowsOf (l .cells)) ≡ xs))) (keepsRules (l .cells))
       (λ t. (λ e. (t, cc), λ w. ap puts (w .1)))
       (λ f. (λ e. absurd (not-puts e), λ w. absurd (false≢true (sym f ∙ w .0))))
 
   module _ (o out : List ℕ) (n : ℕ) (r : Written) (h : Stores l o out r) where
     -- 16, where the ledger breaks the rules; 12, where it keeps them and the output is shorter than the page.
     pub store-given : (r ≡ Written.Refused n) ↔ StoreFault l o n
-    store-given = output-given (storeOf l) _ _ (pageOf (rowsOf l)) store-no store-puts o n r (h .1)
+    store-given = output-given (storeOf (l .cells)) _ _ (pageOf (rowsOf (l .cells))) store-no store-puts o n r (h .1)
 
     -- Else the page goes out, and its length is answered.
-    pub store-written : (r ≡ Written.Octets n) ↔ ((keepsRules l ≡ true) × (length (pageOf (rowsOf l)) ≤ length o) × (n ≡ length (pageOf (rowsOf l))))
-    store-written = output-written (storeOf l) _ _ (pageOf (rowsOf l)) store-no store-puts o n r (h .1)
+    pub store-written : (r ≡ Written.Octets n)
+        ↔ ((keepsRules (l .cells) ≡ true) × (length (pageOf (rowsOf (l .cells))) ≤ length o) × (n ≡ length (pageOf (rowsOf (l .cells)))))
+    store-written = output-written (storeOf (l .cells)) _ _ (pageOf (rowsOf (l .cells))) store-no store-puts o n r (h .1)

@@ -21,13 +21,13 @@ use Rattle.demands.proofs.GivenBlocks.{read-numbers}
 use Rattle.demands.proofs.Verdicts.{number-of, verdict}
 
 -- an answer is its number and its ledger
-numbered : (n : ℕ) (r : Answer) → r .number ≡ n → answer n (r .ledger) ≡ r
-numbered n r e = ap (λ m. answer m (r .ledger)) (sym e)
+numbered : (n : ℕ) (r : Answer) → r .number ≡ n → answer n (r .ledger .cells) ≡ r
+numbered n r e = ap (λ m. answer m (r .ledger .cells)) (sym e)
 
 module _ (l : Ledger) (s : List ℕ) (k : ℕ) (o : Octets s) where
   -- Each case implies its answer, with the ledger that the post leaves.
-  pub verdict-posts : (n : ℕ) → Verdict l s k n → Posts l s k (answer n (postOf l s k .ledger))
-  verdict-posts n v = numbered n (postOf l s k) (number-of l s k n o v)
+  pub verdict-posts : (n : ℕ) → Verdict l s k n → Posts l s k (answer n (postOf (l .cells) s k .ledger .cells))
+  verdict-posts n v = numbered n (postOf (l .cells) s k) (number-of l s k n o v)
 
   -- A post is answered n exactly where n is its verdict.
   pub posts-given : (n : ℕ) (r : Answer) → Posts l s k r → (r .number ≡ n) ↔ Verdict l s k n

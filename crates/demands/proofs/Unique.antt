@@ -12,6 +12,7 @@ use Rattle.blocks.specs.declared.cursor.Found.{Found}
 use Rattle.octets.specs.declared.output.Written.{Written}
 use Rattle.ledger.specs.declared.Answer.{Answer}
 use Rattle.ledger.specs.declared.Ledger.{Ledger}
+use Rattle.ledger.proofs.CellLaws.{ledger-same}
 use Rattle.feed.specs.declared.block.Next.{Next}
 use Rattle.demands.specs.Contracts.{Reads, Steps, Entries, Writes, Rewrites, Fresh, Checks, Posts, LentPosts, Loads, Stores, Begins}
 use Rattle.demands.specs.Contracts.{WearReads, WearSteps, WearEntries, WearWrites, WearRewrites, WearPosts}
@@ -33,7 +34,7 @@ pub one-rewriting : (s l out out' : List ℕ) (r q : Written) → Rewrites s l o
 one-rewriting s l out out' r q h k = only-both (h .0, h .1) (k .0, k .1)
 
 pub one-fresh : (r q : Ledger) → Fresh r → Fresh q → r ≡ q
-one-fresh r q h k = only h k
+one-fresh r q h k = ledger-same (only h k)
 
 pub one-checking : (l : Ledger) (r q : ℕ) → Checks l r → Checks l q → r ≡ q
 one-checking l r q h k = only h k

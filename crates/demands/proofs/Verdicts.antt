@@ -37,7 +37,7 @@ counts-number rows es false false p q = rw (p, q)
 
 module _ (l : Ledger) (s : List ℕ) (k n : ℕ) (o : Octets s) where
   abbrev on : Report → ℕ
-  on x = postRows addUp (rowsOf l) x .number
+  on x = postRows addUp (rowsOf (l .cells)) x .number
 
   on-refused : (m : ℕ) → on (refused m) ≡ m
   unfolding postRows
@@ -45,36 +45,37 @@ module _ (l : Ledger) (s : List ℕ) (k n : ℕ) (o : Octets s) where
 
   -- The number in each case
 
-  broken-number : keepsRules l ≡ false → postOf l s k .number ≡ rulesBroken
+  broken-number : keepsRules (l .cells) ≡ false → postOf (l .cells) s k .number ≡ rulesBroken
   unfolding postOf
   broken-number f = rw f
 
-  by-reading : keepsRules l ≡ true → (r : Reading) → readOf s ≡ r → postOf l s k .number ≡ on (reportBy s k r)
+  by-reading : keepsRules (l .cells) ≡ true → (r : Reading) → readOf s ≡ r → postOf (l .cells) s k .number ≡ on (reportBy s k r)
   unfolding postOf reportOf
   by-reading y r e = rw (y, e)
 
-  unread-number : keepsRules l ≡ true → (m at : ℕ) → readOf s ≡ Reading.Refused m at → postOf l s k .number ≡ m
+  unread-number : keepsRules (l .cells) ≡ true → (m at : ℕ) → readOf s ≡ Reading.Refused m at → postOf (l .cells) s k .number ≡ m
   unread-number y m at e = by-reading y _ e ∙ on-refused m
 
-  missing-number : keepsRules l ≡ true → (len count : ℕ) → readOf s ≡ Reading.Accepted len count → count ≤ k → postOf l s k .number ≡ noSuch
+  missing-number : keepsRules (l .cells) ≡ true → (len count : ℕ) → readOf s ≡ Reading.Accepted len count → count ≤ k
+      → postOf (l .cells) s k .number ≡ noSuch
   missing-number y len count e h = by-reading y _ e ∙ ap (λ x. on (reportAt s x)) (number-past s len count o e k h) ∙ on-refused noSuch
 
   -- a record that was chosen: 13, 14, 15, 0
   module _ (t : Record) (c : Chosen l s k t) where
-    chosen-number : (b : Bool) → isStatistics t ≡ b → postOf l s k .number ≡ on (pick b (counts (entriesOf s t)) (refused notStatistics))
+    chosen-number : (b : Bool) → isStatistics t ≡ b → postOf (l .cells) s k .number ≡ on (pick b (counts (entriesOf s t)) (refused notStatistics))
     unfolding reportIn
     chosen-number b e = by-reading (c .keeps) _ (c .reading) ∙ ap (λ x. on (reportAt s x)) (c .taken) ∙ rw e
 
-    other-number : isStatistics t ≡ false → postOf l s k .number ≡ notStatistics
+    other-number : isStatistics t ≡ false → postOf (l .cells) s k .number ≡ notStatistics
     other-number f = chosen-number false f ∙ on-refused notStatistics
 
-    module _ (y : isStatistics t ≡ true) (a b : Bool) (p : ltb 256 (rowsFor (rowsOf l) (entriesOf s t)) ≡ a)
-        (q : passes addUp (rowsOf l) (entriesOf s t) ≡ b) where
-      counted-number : postOf l s k .number ≡ pick a noRoom (pick b lifePasses 0)
-      counted-number = chosen-number true y ∙ counts-number (rowsOf l) (entriesOf s t) a b p q
+    module _ (y : isStatistics t ≡ true) (a b : Bool) (p : ltb 256 (rowsFor (rowsOf (l .cells)) (entriesOf s t)) ≡ a)
+        (q : passes addUp (rowsOf (l .cells)) (entriesOf s t) ≡ b) where
+      counted-number : postOf (l .cells) s k .number ≡ pick a noRoom (pick b lifePasses 0)
+      counted-number = chosen-number true y ∙ counts-number (rowsOf (l .cells)) (entriesOf s t) a b p q
 
   -- Each verdict has its number.
-  pub number-of : Verdict l s k n → postOf l s k .number ≡ n
+  pub number-of : Verdict l s k n → postOf (l .cells) s k .number ≡ n
   number-of (broken f e) = broken-number f ∙ sym e
   number-of (unread y at r) = unread-number y n at r
   number-of (missing y len count r h e) = missing-number y len count r h ∙ sym e
@@ -84,14 +85,14 @@ module _ (l : Ledger) (s : List ℕ) (k n : ℕ) (o : Octets s) where
   number-of (added t c y h p e) = counted-number t c y false false (le-ltb _ _ h) p ∙ sym e
 
   -- Each post has its verdict.
-  module _ (is : n ≡ postOf l s k .number) where
+  module _ (is : n ≡ postOf (l .cells) s k .number) where
     statistics : (t : Record) → Chosen l s k t → isStatistics t ≡ true → Verdict l s k n
     statistics t c y =
-        test (ltb 256 (rowsFor (rowsOf l) (entriesOf s t))) (λ a. full t c y (ltb-true _ _ a) (is ∙ counted-number t c y true _ a refl)) λ b.
-        test (passes addUp (rowsOf l) (entriesOf s t)) (λ a. past t c y (ltb-false _ _ b) a (is ∙ counted-number t c y false true b a))
+        test (ltb 256 (rowsFor (rowsOf (l .cells)) (entriesOf s t))) (λ a. full t c y (ltb-true _ _ a) (is ∙ counted-number t c y true _ a refl)) λ b.
+        test (passes addUp (rowsOf (l .cells)) (entriesOf s t)) (λ a. past t c y (ltb-false _ _ b) a (is ∙ counted-number t c y false true b a))
         (λ a. added t c y (ltb-false _ _ b) a (is ∙ counted-number t c y false false b a))
 
-    accepted : keepsRules l ≡ true → (len count : ℕ) → readOf s ≡ Reading.Accepted len count → Verdict l s k n
+    accepted : keepsRules (l .cells) ≡ true → (len count : ℕ) → readOf s ≡ Reading.Accepted len count → Verdict l s k n
     accepted y len count e =
         test (ltb k count)
         (λ a.
@@ -101,11 +102,11 @@ module _ (l : Ledger) (s : List ℕ) (k n : ℕ) (o : Octets s) where
         test (isStatistics t) (statistics t c) (λ f. other t c f (is ∙ other-number t c f)))
         (λ b. missing y len count e (ltb-false k count b) (is ∙ missing-number y len count e (ltb-false k count b)))
 
-    kept : keepsRules l ≡ true → (r : Reading) → readOf s ≡ r → Verdict l s k n
+    kept : keepsRules (l .cells) ≡ true → (r : Reading) → readOf s ≡ r → Verdict l s k n
     kept y (reading.Refused m at) e = unread y at (e ∙ ap (λ i. Reading.Refused i at) (sym (is ∙ unread-number y m at e)))
     kept y (reading.Accepted len count) e = accepted y len count e
 
-  pub verdict : (m : Ledger) → Posts l s k (answer n m) → Verdict l s k n
+  pub verdict : (m : Ledger) → Posts l s k (answer n (m .cells)) → Verdict l s k n
   verdict m h =
-      let is : n ≡ postOf l s k .number = ap (λ (a : Answer). a .number) h in
-      test (keepsRules l) (λ y. kept is y (readOf s) refl) (λ f. broken f (is ∙ broken-number f))
+      let is : n ≡ postOf (l .cells) s k .number = ap (λ (a : Answer). a .number) h in
+      test (keepsRules (l .cells)) (λ y. kept is y (readOf s) refl) (λ f. broken f (is ∙ broken-number f))

@@ -11,7 +11,7 @@ use Rattle.blocks.specs.declared.walk.Reading.{Reading}
 use Rattle.blocks.specs.declared.cursor.Step.{Step}
 use Rattle.blocks.specs.declared.cursor.Found.{Found}
 use Rattle.octets.specs.Outcomes.{Outcome, within, answerOf, outputOf, listedWritten, outcomeListed}
-use Rattle.ledger.specs.Ledgers.{answer, ledgerOf, rulesRefusal}
+use Rattle.ledger.specs.Ledgers.{answer, cellsOf, rulesRefusal}
 use Rattle.ledger.specs.Pages.{loadOf, storeOf}
 use Rattle.ledger.specs.Posts.{postOf}
 use Rattle.ledger.specs.declared.Answer.{Answer}
@@ -50,19 +50,19 @@ Rewrites s l out r = Puts (rewriteOf s) l out r
 
 -- ledger::fresh: the ledger
 abbrev pub Fresh : Ledger → Type 0
-Fresh r = r ≡ ledgerOf []
+Fresh r = r .cells ≡ cellsOf []
 
 -- ledger::rules::check: the ledger, the number
 abbrev pub Checks : Ledger → ℕ → Type 0
-Checks l r = r ≡ rulesRefusal l
+Checks l r = r ≡ rulesRefusal (l .cells)
 
 -- ledger::post::post: the ledger, the octets, the record number, the answer with the ledger
 abbrev pub Posts : Ledger → List ℕ → ℕ → Answer → Type 0
-Posts l s k r = r ≡ postOf l s k
+Posts l s k r = r ≡ postOf (l .cells) s k
 
 -- ledger::lent::post_lent: the ledger behind the reference, the octets, the record number, the ledger behind it afterwards, the number
 abbrev pub LentPosts : Ledger → List ℕ → ℕ → Ledger → ℕ → Type 0
-LentPosts l s k after r = answer r after ≡ postOf l s k
+LentPosts l s k after r = answer r (after .cells) ≡ postOf (l .cells) s k
 
 -- ledger::page::load: the page, the answer with the ledger
 abbrev pub Loads : List ℕ → Answer → Type 0
@@ -70,7 +70,7 @@ Loads s r = r ≡ loadOf s
 
 -- ledger::page::store: the ledger, the output before and after, the answer
 abbrev pub Stores : Ledger → List ℕ → List ℕ → Written → Type 0
-Stores l o out r = Puts (storeOf l) o out r
+Stores l o out r = Puts (storeOf (l .cells)) o out r
 
 -- feed::block::next_block: the octets at hand, whether the input is over, the answer
 abbrev pub Begins : List ℕ → Bool → Next → Type 0

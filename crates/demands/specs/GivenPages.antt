@@ -9,7 +9,7 @@ use lib.ListN.{length}
 use Rattle.octets.specs.Numbers.{number}
 use Rattle.octets.specs.Refusals.{rulesBroken}
 use Rattle.ledger.specs.Ledgers.{rowsOf, keepsRules}
-use Rattle.ledger.specs.Pages.{keysAt, readingsAt, pageLength, pageOf, countIn, headKeeps, ledgerIn}
+use Rattle.ledger.specs.Pages.{keysAt, readingsAt, pageLength, pageOf, countIn, headKeeps, cellsIn}
 use Rattle.ledger.specs.declared.Ledger.{Ledger}
 use Rattle.demands.specs.Given.{OutputFault}
 
@@ -23,11 +23,12 @@ pub record PageHead (s : List ℕ) : Type 0 where
 
 -- a page, with a ledger that keeps the rules; and octets that are none: "16: ledger or page breaks its rules"
 abbrev pub Page : List ℕ → Type 0
-Page s = (headKeeps s ≡ true) × (keepsRules (ledgerIn s) ≡ true)
+Page s = (headKeeps s ≡ true) × (keepsRules (cellsIn s) ≡ true)
 
 abbrev pub NoPage : List ℕ → Type 0
-NoPage s = (headKeeps s ≡ false) ⊎ ((headKeeps s ≡ true) × (keepsRules (ledgerIn s) ≡ false))
+NoPage s = (headKeeps s ≡ false) ⊎ ((headKeeps s ≡ true) × (keepsRules (cellsIn s) ≡ false))
 
 -- storing: 16, then 12
 abbrev pub StoreFault : Ledger → List ℕ → ℕ → Type 0
-StoreFault l o n = OutputFault (λ m. (keepsRules l ≡ false) × (m ≡ rulesBroken)) (keepsRules l ≡ true) (pageOf (rowsOf l)) o n
+StoreFault l o n =
+    OutputFault (λ m. (keepsRules (l .cells) ≡ false) × (m ≡ rulesBroken)) (keepsRules (l .cells) ≡ true) (pageOf (rowsOf (l .cells))) o n

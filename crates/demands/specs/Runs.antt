@@ -3,7 +3,9 @@ use mathlib.Core.Bool.{true}
 use mathlib.Core.List.{List, [], _∷_, map}
 use mathlib.Core.Path.{_≡_}
 use Prim.Native.Nat.{ℕ}
+use native.Mathlib.Omega.{arith}
 use lib.ListN.{getD}
+use Rattle.octets.specs.Numbers.{Octets}
 use Rattle.rows.specs.Posting.{Report, entries, names, Room as RowsRoom}
 use Rattle.rows.specs.Order.{upto, Order as ReportsOrder}
 use Rattle.ledger.specs.Ledgers.{answer, rowsOf}
@@ -14,21 +16,22 @@ use Rattle.demands.specs.Contracts.{Posts}
 -- what comes in: octets, and the number of a record in them
 pub record Sent : Type 0 where
   pub octets : List ℕ
+  pub are : Octets octets
   pub number : ℕ
 
 abbrev pub nothing : Sent
-nothing = record { octets = []; number = 0 }
+nothing = record { octets = []; are = λ i. omega arith; number = 0 }
 
 -- the first n records of octets, by number
-abbrev pub numbered : List ℕ → ℕ → List Sent
-numbered s n = map (λ k. record { octets = s; number = k }) (upto n)
+abbrev pub numbered : (s : List ℕ) → Octets s → ℕ → List Sent
+numbered s o n = map (λ k. record { octets = s; are = o; number = k }) (upto n)
 
 -- A run: each is posted to the ledger that the one before left. The answers in turn, and the ledger at the end.
 abbrev pub Run : Ledger → List Sent → List ℕ → Ledger → Type 0
 Run l [] [] end = end ≡ l
 Run l [] (n ∷ ns) end = ⊥
 Run l (x ∷ xs) [] end = ⊥
-Run l (x ∷ xs) (n ∷ ns) end = (m : Ledger) × Posts l (x .octets) (x .number) (answer n m) × Run m xs ns end
+Run l (x ∷ xs) (n ∷ ns) end = (m : Ledger) × Posts l (x .octets) (x .number) (answer n (m .cells)) × Run m xs ns end
 
 -- The counters that it names are those of the entries of its report: of one that is refused with 1 to 11, 17 or 13 none; a report that
 -- is refused with 14 or 15 has them all the same.
@@ -40,7 +43,7 @@ Names x k = names k (entries (report x)) ≡ true
 
 -- Room in a ledger for every counter that a run names, whatever is refused.
 abbrev pub Room : Ledger → List Sent → Type 0
-Room l xs = RowsRoom (rowsOf l) (map report xs)
+Room l xs = RowsRoom (rowsOf (l .cells)) (map report xs)
 
 -- Another order of a run lists the places of its reports, each once and nothing else; of any two that share a counter, the one that comes
 -- first in the run comes first in the order.

@@ -18,7 +18,7 @@ use Rattle.ledger.specs.declared.Ledger.{Ledger}
 
 -- the ledger keeps the rules, the block is accepted and has a record of this number, and that is t
 pub record Chosen (l : Ledger) (s : List ℕ) (k : ℕ) (t : Record) : Type 0 where
-  pub keeps : keepsRules l ≡ true
+  pub keeps : keepsRules (l .cells) ≡ true
   pub len : ℕ
   pub count : ℕ
   pub reading : readOf s ≡ Reading.Accepted len count
@@ -27,15 +27,15 @@ pub record Chosen (l : Ledger) (s : List ℕ) (k : ℕ) (t : Record) : Type 0 wh
   pub taken : stepAt s k 3 ≡ Step.Taken t (record { at = next })
 
 pub data Verdict (l : Ledger) (s : List ℕ) (k n : ℕ) : Type 0 where
-  broken : keepsRules l ≡ false → n ≡ rulesBroken → Verdict l s k n
-  unread : keepsRules l ≡ true → (at : ℕ) → readOf s ≡ Reading.Refused n at → Verdict l s k n
-  missing : keepsRules l ≡ true → (len count : ℕ) → readOf s ≡ Reading.Accepted len count → count ≤ k → n ≡ noSuch → Verdict l s k n
+  broken : keepsRules (l .cells) ≡ false → n ≡ rulesBroken → Verdict l s k n
+  unread : keepsRules (l .cells) ≡ true → (at : ℕ) → readOf s ≡ Reading.Refused n at → Verdict l s k n
+  missing : keepsRules (l .cells) ≡ true → (len count : ℕ) → readOf s ≡ Reading.Accepted len count → count ≤ k → n ≡ noSuch → Verdict l s k n
   other : (t : Record) → Chosen l s k t → isStatistics t ≡ false → n ≡ notStatistics → Verdict l s k n
-  full : (t : Record) → Chosen l s k t → isStatistics t ≡ true → 256 < rowsFor (rowsOf l) (entriesOf s t) → n ≡ noRoom → Verdict l s k n
-  past : (t : Record) → Chosen l s k t → isStatistics t ≡ true → rowsFor (rowsOf l) (entriesOf s t) ≤ 256
-      → passes addUp (rowsOf l) (entriesOf s t) ≡ true → n ≡ lifePasses → Verdict l s k n
-  added : (t : Record) → Chosen l s k t → isStatistics t ≡ true → rowsFor (rowsOf l) (entriesOf s t) ≤ 256
-      → passes addUp (rowsOf l) (entriesOf s t) ≡ false → n ≡ 0 → Verdict l s k n
+  full : (t : Record) → Chosen l s k t → isStatistics t ≡ true → 256 < rowsFor (rowsOf (l .cells)) (entriesOf s t) → n ≡ noRoom → Verdict l s k n
+  past : (t : Record) → Chosen l s k t → isStatistics t ≡ true → rowsFor (rowsOf (l .cells)) (entriesOf s t) ≤ 256
+      → passes addUp (rowsOf (l .cells)) (entriesOf s t) ≡ true → n ≡ lifePasses → Verdict l s k n
+  added : (t : Record) → Chosen l s k t → isStatistics t ≡ true → rowsFor (rowsOf (l .cells)) (entriesOf s t) ≤ 256
+      → passes addUp (rowsOf (l .cells)) (entriesOf s t) ≡ false → n ≡ 0 → Verdict l s k n
 
 -- the cases in turn
 abbrev pub turn : {l : Ledger} {s : List ℕ} {k n : ℕ} → Verdict l s k n → ℕ

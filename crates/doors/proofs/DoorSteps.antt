@@ -56,11 +56,11 @@ module _ (page s : List ℕ) (k : ℕ) {a : Answer} (loaded : a ≡ loadOf page)
   unfolding pagePosted
   load-refused h = rw (← loaded, ne-eqb (a .number) 0 h)
 
-  module _ (good : a .number ≡ 0) {b : Answer} (posted : b ≡ postOf (a .ledger) s k) where
+  module _ (good : a .number ≡ 0) {b : Answer} (posted : b ≡ postOf (a .ledger .cells) s k) where
     pub post-refused : (b .number ≡ 0 → ⊥) → pagePosted page s k ≡ no (b .number)
     unfolding pagePosted
     post-refused h = rw (← loaded, eq-eqb (a .number) 0 good, ← posted, ne-eqb (b .number) 0 h)
 
-    pub post-stored : b .number ≡ 0 → pagePosted page s k ≡ storeOf (b .ledger)
+    pub post-stored : b .number ≡ 0 → pagePosted page s k ≡ storeOf (b .ledger .cells)
     unfolding pagePosted
     post-stored h = rw (← loaded, eq-eqb (a .number) 0 good, ← posted, eq-eqb (b .number) 0 h)

@@ -62,10 +62,10 @@ cellsWritten cs s = pick (eqb (cellsRefusal cs) 0) (writeOf s (recordOf cs)) (no
 
 -- load, post, store
 abbrev pub postStored : Answer → Outcome
-postStored a = pick (eqb (a .number) 0) (storeOf (a .ledger)) (no (a .number))
+postStored a = pick (eqb (a .number) 0) (storeOf (a .ledger .cells)) (no (a .number))
 
 abbrev pub loadPosted : List ℕ → ℕ → Answer → Outcome
-loadPosted s k a = pick (eqb (a .number) 0) (postStored (postOf (a .ledger) s k)) (no (a .number))
+loadPosted s k a = pick (eqb (a .number) 0) (postStored (postOf (a .ledger .cells) s k)) (no (a .number))
 
 unfoldable pub pagePosted : List ℕ → List ℕ → ℕ → Outcome
 pagePosted page s k = loadPosted s k (loadOf page)

@@ -2,10 +2,10 @@
 use mathlib.Core.Bool.{Bool, true, false}
 use mathlib.Core.List.{List, [], _∷_, map}
 use mathlib.Core.Path.{_≡_, refl, sym, ap, _∙_, subst}
-use Prim.Native.Nat.{ℕ, _+_, _*_, _≤_, _<_}
+use Prim.Native.Nat.{ℕ, _≤_, _<_}
 use native.Mathlib.Omega.{arith}
 use borrow.Author.Tests.{ne-eqb}
-use lib.ListN.{length, getD}
+use lib.ListN.{getD}
 use Rattle.octets.specs.Choice.{pick}
 use Rattle.octets.specs.Numbers.{Octets}
 use Rattle.octets.specs.Refusals.{notStatistics}
@@ -22,14 +22,14 @@ use Rattle.blocks.specs.declared.walk.Reading.{Reading}
 use Rattle.blocks.proofs.SeenLaws.{Sees}
 use Rattle.blocks.proofs.TakenLaws.{accepted-step, accepted-forward}
 use Rattle.rows.specs.Rows.{Row, addUp}
-use Rattle.rows.specs.Posting.{Report, refused, counts, postRows, answers, after}
-use Rattle.ledger.specs.Ledgers.{answer, rowsOf, ledgerOf}
+use Rattle.rows.specs.Posting.{Report, refused, counts, entries, postRows, answers, after}
+use Rattle.ledger.specs.Ledgers.{answer, rowsOf, cellsOf}
 use Rattle.ledger.specs.Posts.{postedTo}
 use Rattle.ledger.specs.Reports.{entriesAt, reportIn}
-use Rattle.ledger.specs.Steps.{Kept}
+use Rattle.ledger.specs.Steps.{Kept, InOctets, Lies}
 use Rattle.ledger.specs.declared.Answer.{Answer}
-use Rattle.ledger.specs.declared.Ledger.{Ledger}
-use Rattle.ledger.proofs.ColumnLaws.{rows-back, kept-of}
+use Rattle.ledger.proofs.CellLaws.{rows-back, kept-of}
+use Rattle.ledger.proofs.NarrowLaws.{Fit, record-fits, post-ruled}
 use Rattle.ledger.proofs.PostSteps.{post-statistics}
 use Rattle.ledger.proofs.ReportLaws.{lies, report-other, entries-lie}
 use Rattle.feed.specs.Blocks.{reportsOf}
@@ -37,7 +37,6 @@ use Rattle.feed.specs.Runs.{State, state}
 use Rattle.feed.specs.Totals.{answeredOne, blockDone, acceptedOne}
 use Rattle.feed.specs.declared.totals.Totals.{Totals}
 use Rattle.feed.proofs.BlockReports.{taken-category, block-visited}
-use Rattle.feed.proofs.KeptRuns.{good-post}
 use Rattle.feed.proofs.TotalLaws.{Small, answered-small, answered-other, answered-more, answered-none}
 
 -- Reports posted to rows and counted, to the end of a block
@@ -60,15 +59,15 @@ ended-skip rows t small rs =
     ap (λ (to : Totals). ended rows to rs) (answered-other t notStatistics small (λ z. omega arith) (λ z. omega arith) (λ z. omega arith))
     ∙ ended-more rows t (refused notStatistics) rs
 
--- What a report posted to columns leaves
-module _ (l : Ledger) (x : Report) (r : ℕ) (m : Ledger) (e : answer r m ≡ postedTo l x) where
+-- What a report posted to cells leaves
+module _ (l : List ℕ) (x : Report) (r : ℕ) (m : List ℕ) (e : answer r m ≡ postedTo l x) where
   -- its rows
   post-rows : rowsOf m ≡ postRows addUp (rowsOf l) x .rows
-  post-rows = ap (λ (a : Answer). rowsOf (a .ledger)) e ∙ rows-back (postRows addUp (rowsOf l) x .rows)
+  post-rows = ap (λ (a : Answer). rowsOf (a .ledger .cells)) e ∙ rows-back (postRows addUp (rowsOf l) x .rows)
 
-  -- columns that keep the rules
-  post-keeps : Kept l → Kept m
-  post-keeps k = subst (λ (a : Answer). Kept (a .ledger)) (sym e) (kept-of _ (good-post (rowsOf l) x (k .good)))
+  -- cells that keep the rules
+  post-keeps : Kept l → Fit (entries x) → Kept m
+  post-keeps k f = subst (λ (a : Answer). Kept (a .ledger .cells)) (sym e) (kept-of _ (post-ruled (rowsOf l) x (k .good, k .narrow) f))
 
   -- and the others to be posted
   post-ended : (t : Totals) (rs : List Report) → ended (rowsOf m) (answeredOne t r) rs ≡ ended (rowsOf l) t (x ∷ rs)
@@ -76,11 +75,11 @@ module _ (l : Ledger) (x : Report) (r : ℕ) (m : Ledger) (e : answer r m ≡ po
       (λ i. ended (post-rows i) (answeredOne t (ap (λ (a : Answer). a .number) e i)) rs) ∙ ended-more (rowsOf l) t x rs
 
 -- Where all are posted, what is left to do is to count the block
-all-posted : (l : Ledger) (t : Totals) → Kept l → Small t → (st : State) → ended (rowsOf l) t [] ≡ st
-    → (l ≡ ledgerOf (st .rows)) × (blockDone t ≡ st .totals)
+all-posted : (l : List ℕ) (t : Totals) → Kept l → Small t → (st : State) → ended (rowsOf l) t [] ≡ st
+    → (l ≡ cellsOf (st .rows)) × (blockDone t ≡ st .totals)
 unfolding after answers
 all-posted l t k small st e = (
-  k .rest ∙ ap (λ (x : State). ledgerOf (x .rows)) e,
+  k .rest ∙ ap (λ (x : State). cellsOf (x .rows)) e,
   sym (answered-none t small) ∙ ap (λ (x : State). x .totals) e,
 )
 
@@ -99,8 +98,8 @@ module _ (s : List ℕ) (other : getD s 0 0 ≡ 23 → ⊥) where
 
 -- so that only the block is counted
 pub other-category : (s : List ℕ) (len n : ℕ) → Octets s → readOf s ≡ Reading.Accepted len n → (getD s 0 0 ≡ 23 → ⊥)
-    → (l : Ledger) (t : Totals) → Kept l → Small t
-    → let all = ended (rowsOf l) t (reportsOf s) in (l ≡ ledgerOf (all .rows)) × (blockDone t ≡ all .totals)
+    → (l : List ℕ) (t : Totals) → Kept l → Small t
+    → let all = ended (rowsOf l) t (reportsOf s) in (l ≡ cellsOf (all .rows)) × (blockDone t ≡ all .totals)
 other-category s len n o h other l t k small =
     let b = block-visited s len n o h in
     all-posted l t k small (ended (rowsOf l) t (reportsOf s))
@@ -119,7 +118,7 @@ was-report false r q x next e = absurd (let z : _≡_ {A = ℕ} 0 1 = cc in omeg
 
 -- The loop: the records that steps visit from the offset up to LEN are still to be posted
 
-pub record Posting (s : List ℕ) (len : ℕ) (l₀ : Ledger) (t₀ : Totals) (l : Ledger) (t : Totals) (at : ℕ) : Type 0 where
+pub record Posting (s : List ℕ) (len : ℕ) (l₀ : List ℕ) (t₀ : Totals) (l : List ℕ) (t : Totals) (at : ℕ) : Type 0 where
   pub low : 3 ≤ at
   pub small : Small t
   pub kept : Kept l
@@ -142,7 +141,7 @@ first s len at (t ∷ ts) (q, e, v) l = record { one = t; next = q; others = ts;
 
 module _ (s : List ℕ) (len n : ℕ) (o : Octets s) (h : readOf s ≡ Reading.Accepted len n) where
   -- all of them
-  pub posting-none : (l : Ledger) (t : Totals) → Kept l → Small t → Posting s len l t l t 3
+  pub posting-none : (l : List ℕ) (t : Totals) → Kept l → Small t → Posting s len l t l t 3
   posting-none l t k small =
       let b = block-visited s len n o h in
       record { low = omega arith; small = small; kept = k; left = b .0; visits = b .1; is = ap (ended (rowsOf l) t) (sym (b .3)) }
@@ -152,8 +151,8 @@ module _ (s : List ℕ) (len n : ℕ) (o : Octets s) (h : readOf s ≡ Reading.A
   none-left [] at v l = refl
   none-left (t ∷ ts) at (q, e, v) l = absurd (omega (arith, accepted-forward s len n o h at t (record { at = q }) e .0))
 
-  module _ (l₀ : Ledger) (t₀ : Totals) (l : Ledger) (t : Totals) (at : ℕ) (w : Posting s len l₀ t₀ l t at) where
-    pub posting-end : len ≤ at → let all = ended (rowsOf l₀) t₀ (reportsOf s) in (l ≡ ledgerOf (all .rows)) × (blockDone t ≡ all .totals)
+  module _ (l₀ : List ℕ) (t₀ : Totals) (l : List ℕ) (t : Totals) (at : ℕ) (w : Posting s len l₀ t₀ l t at) where
+    pub posting-end : len ≤ at → let all = ended (rowsOf l₀) t₀ (reportsOf s) in (l ≡ cellsOf (all .rows)) × (blockDone t ≡ all .totals)
     posting-end e =
         all-posted l t (w .kept) (w .small) (ended (rowsOf l₀) t₀ (reportsOf s))
         (ap (λ (us : List Record). ended (rowsOf l) t (map (reportIn s) us)) (sym (none-left (w .left) at (w .visits) e)) ∙ w .is)
@@ -204,21 +203,21 @@ module _ (s : List ℕ) (len n : ℕ) (o : Octets s) (h : readOf s ≡ Reading.A
         report-forward = subst (λ q. at < q) (first-report .2) forward
 
         -- it may be posted
-        pub report-asks : Kept l × (r .at + r .count * 6 ≤ length s)
-        report-asks = (
-          w .kept,
-          entries-lie s (f .one) (first-report .0) r (first-report .1) (lies s at (f .one) (record { at = f .next }) o (sym (f .taken))),
-        )
+        lies-there : Lies s (f .one)
+        lies-there = lies s at (f .one) (record { at = f .next }) o (sym (f .taken))
+
+        pub report-asks : Kept l × InOctets s (r .at) (r .count)
+        report-asks = (w .kept, entries-lie s (f .one) (first-report .0) r (first-report .1) lies-there)
 
         -- the others, once it is
-        pub posting-report : (a : ℕ) (m : Ledger) → ((time : ℕ) → answer a m ≡ postedTo l (counts (entriesAt s time r)))
+        pub posting-report : (a : ℕ) (m : List ℕ) → ((time : ℕ) → answer a m ≡ postedTo l (counts (entriesAt s time r)))
             → (to : Totals) → to ≡ answeredOne t a → Posting s len l₀ t₀ m to next
         posting-report a m posted to counted =
             let p = post-statistics l (w .kept) s (f .one) (first-report .0) r (first-report .1) (answer a m) posted in
             rw counted (subst (λ q. Posting s len l₀ t₀ m (answeredOne t a) q) (first-report .2) (record {
               low = omega (arith, w .low, forward);
               small = answered-small t a;
-              kept = post-keeps l (reportIn s (f .one)) a m p (w .kept);
+              kept = post-keeps l (reportIn s (f .one)) a m p (w .kept) (record-fits s (f .one) lies-there);
               left = f .others;
               visits = f .visits;
               is = post-ended l (reportIn s (f .one)) a m p t (map (reportIn s) (f .others)) ∙ is-left;

@@ -1,7 +1,7 @@
 pub mod TotalLaws
 pub mod NextLaws
-pub mod KeptRuns
 pub mod BlockReports
+pub mod KeptRuns
 pub mod BlockSteps
 pub mod RunSteps
 pub mod BlockTheorems

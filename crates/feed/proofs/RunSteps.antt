@@ -13,10 +13,9 @@ use Rattle.blocks.specs.Walks.{readOf}
 use Rattle.blocks.specs.declared.walk.Reading.{Reading}
 use Rattle.rows.specs.Rows.{addUp}
 use Rattle.rows.specs.Posting.{answers, after}
-use Rattle.ledger.specs.Ledgers.{rowsOf, ledgerOf}
+use Rattle.ledger.specs.Ledgers.{rowsOf, cellsOf}
 use Rattle.ledger.specs.Steps.{Kept}
-use Rattle.ledger.specs.declared.Ledger.{Ledger}
-use Rattle.ledger.proofs.ColumnLaws.{rows-back, kept-of}
+use Rattle.ledger.proofs.CellLaws.{rows-back, kept-of}
 use Rattle.feed.specs.Blocks.{nextOf, reportsOf}
 use Rattle.feed.specs.Totals.{refusedOne, acceptedOne}
 use Rattle.feed.specs.Runs.{State, state, Run, left, behind, goOn, runFrom, runOver, doneOf}
@@ -24,7 +23,7 @@ use Rattle.feed.specs.declared.block.Next.{Next}
 use Rattle.feed.specs.declared.run.Done.{Done}
 use Rattle.feed.specs.declared.run.Ending.{Ending}
 use Rattle.feed.specs.declared.totals.Totals.{Totals}
-use Rattle.feed.proofs.KeptRuns.{good-after}
+use Rattle.feed.proofs.KeptRuns.{block-ruled}
 use Rattle.feed.proofs.NextLaws.{next-block}
 
 -- an answer
@@ -42,18 +41,18 @@ run-one (suc n) s over st l x e =
 
 -- The loop: the run from an offset on is still to be done
 
-pub record Going (s : List ℕ) (over : Bool) (st₀ : State) (l : Ledger) (t : Totals) (at n : ℕ) : Type 0 where
+pub record Going (s : List ℕ) (over : Bool) (st₀ : State) (l : List ℕ) (t : Totals) (at n : ℕ) : Type 0 where
   pub within : at ≤ length s
   pub kept : Kept l
   pub is : behind at (runFrom n (drop at s) over (state (rowsOf l) t)) ≡ runOver s over st₀
 
 -- what a run has done: its ledger, and its answer
-abbrev pub Over : Run → Ledger → Done → Type 0
-Over r l d = (l ≡ ledgerOf (r .state .rows)) × (d ≡ doneOf r)
+abbrev pub Over : Run → List ℕ → Done → Type 0
+Over r l d = (l ≡ cellsOf (r .state .rows)) × (d ≡ doneOf r)
 
 module _ (s : List ℕ) (over : Bool) where
   -- the whole run
-  pub going-none : (l : Ledger) (t : Totals) → Kept l → Going s over (state (rowsOf l) t) l t 0 (length s + 1)
+  pub going-none : (l : List ℕ) (t : Totals) → Kept l → Going s over (state (rowsOf l) t) l t 0 (length s + 1)
   going-none l t k =
       let r = runOver s over (state (rowsOf l) t) in
       record { within = omega arith; kept = k; is = rw add-one (λ i. left (r .state) (zero-add (r .at) i) (r .ending)) }
@@ -69,7 +68,7 @@ module _ (s : List ℕ) (over : Bool) where
   part-octets : Octets s → (at : ℕ) → Octets (part at)
   part-octets o at = subst Octets (sym (part-is at)) (λ j. rw getD-drop (o (at + j)))
 
-  module _ (st₀ : State) (l : Ledger) (t : Totals) (at n : ℕ) (w : Going s over st₀ l t at n) where
+  module _ (st₀ : State) (l : List ℕ) (t : Totals) (at n : ℕ) (w : Going s over st₀ l t at n) where
     abbrev now : State
     now = state (rowsOf l) t
 
@@ -78,7 +77,7 @@ module _ (s : List ℕ) (over : Bool) where
         → Over (runOver s over st₀) l (done to at e)
     last to e h =
         let all = sym (ap (behind at) h) ∙ w .is in (
-          w .kept .rest ∙ ap (λ (r : Run). ledgerOf (r .state .rows)) all,
+          w .kept .rest ∙ ap (λ (r : Run). cellsOf (r .state .rows)) all,
           (λ i. done to (sym (add-zero at) i) e) ∙ ap doneOf all,
         )
 
@@ -105,7 +104,7 @@ module _ (s : List ℕ) (over : Bool) where
       going-stopped e to is = rw is (last (refusedOne t) Ending.Stopped (one Next.Stopped e))
 
       -- a block is behind
-      onward : (len : ℕ) → len ≤ length (part at) → (m : Ledger) (to : Totals) → Kept m
+      onward : (len : ℕ) → len ≤ length (part at) → (m : List ℕ) (to : Totals) → Kept m
           → runFrom n (drop at s) over now ≡ behind len (runFrom (n - 1) (drop len (part at)) over (state (rowsOf m) to))
           → Going s over st₀ m to (at + len) (n - 1)
       onward len h m to k e =
@@ -138,12 +137,12 @@ module _ (s : List ℕ) (over : Bool) where
           going-asks = (w .kept, block .1)
 
           -- and are
-          pub going-accepted : (m : Ledger) (to : Totals) → m ≡ ledgerOf (after addUp (rowsOf l) (reportsOf (part at)))
+          pub going-accepted : (m : List ℕ) (to : Totals) → m ≡ cellsOf (after addUp (rowsOf l) (reportsOf (part at)))
               → to ≡ acceptedOne t (answers addUp (rowsOf l) (reportsOf (part at))) → Going s over st₀ m to (at + len) (n - 1)
           going-accepted m to is counted =
               let rows = after addUp (rowsOf l) (reportsOf (part at)) in
               let same : rowsOf m ≡ rows = ap rowsOf is ∙ rows-back rows in
               onward len (block .0) m to
-              (subst Kept (sym is) (kept-of rows (good-after (rowsOf l) (reportsOf (part at)) (w .kept .good))))
+              (subst Kept (sym is) (kept-of rows (block-ruled (rowsOf l) (part at) (part-octets o at) (w .kept .good, w .kept .narrow))))
               (one (Next.Accepted len) e
               ∙ (λ i. behind len (runFrom (n - 1) (drop len (part at)) over (state (sym same i) (sym counted i)))))

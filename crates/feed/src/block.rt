@@ -5,7 +5,7 @@ ghost use Rattle.blocks.specs.Walks.{readOf};
 ghost use Rattle.blocks.specs.declared.walk.Reading.{Reading};
 ghost use Rattle.rows.specs.Rows.{addUp};
 ghost use Rattle.rows.specs.Posting.{answers, after};
-ghost use Rattle.ledger.specs.Ledgers.{columns, rowsOf, ledgerOf};
+ghost use Rattle.ledger.specs.Ledgers.{rowsOf, changed};
 ghost use Rattle.ledger.specs.Steps.{Kept};
 ghost use Rattle.feed.specs.Blocks.{nextOf, reportsOf};
 ghost use Rattle.feed.specs.Totals.{acceptedOne};
@@ -17,6 +17,7 @@ use blocks::statistics::Seen;
 use blocks::statistics::see;
 use blocks::walk::Reading;
 use blocks::walk::read;
+use ledger::cells::CELLS;
 use ledger::post::post_report;
 
 // What the octets at hand begin with: an accepted block and its LEN, a refused one to skip by LEN; or the run has ended, stops, or needs more octets.
@@ -61,19 +62,10 @@ pub fn next_block(s: &[u8], is_over: bool) -> Next
 
 // Posts the records of an accepted block of LEN octets, along its steps: only category 23 has statistics reports, and every other record is
 // answered 13. For `run`, and for callers that have seen the block accepted.
-pub fn post_block(
-    count: &mut usize,
-    keys: &mut [u32; 256],
-    lives: &mut [u64; 256],
-    readings: &mut [u32; 256],
-    s: &[u8],
-    len: usize,
-    totals: Totals,
-) -> Totals
-    requires { ⌜ Kept (columns (now count) (now keys) (now lives) (now readings)) × ((n : ℕ) × (readOf (now s) ≡ Reading.Accepted len n)) ⌝ }
-    ensures { λ r. ⌜ (columns (now (count .exit)) (now (keys .exit)) (now (lives .exit)) (now (readings .exit))
-        ≡ ledgerOf (after addUp (rowsOf (columns (now (count .entry)) (now (keys .entry)) (now (lives .entry)) (now (readings .entry)))) (reportsOf (now (s .entry)))))
-        × (r ≡ acceptedOne totals (answers addUp (rowsOf (columns (now (count .entry)) (now (keys .entry)) (now (lives .entry)) (now (readings .entry)))) (reportsOf (now (s .entry))))) ⌝ }
+pub fn post_block(cells: &mut [u64; CELLS], s: &[u8], len: usize, totals: Totals) -> Totals
+    requires { ⌜ Kept (now cells) × ((n : ℕ) × (readOf (now s) ≡ Reading.Accepted len n)) ⌝ }
+    ensures { λ r. ⌜ (now (cells .exit) ≡ changed (λ rows. after addUp rows (reportsOf (now (s .entry)))) (now (cells .entry)))
+        × (r ≡ acceptedOne totals (answers addUp (rowsOf (now (cells .entry))) (reportsOf (now (s .entry))))) ⌝ }
 {
     let number = s[0];
     if number != CATEGORY {
@@ -88,7 +80,7 @@ pub fn post_block(
                 at = next;
             }
             Seen::Report(report, next) => {
-                let answer = post_report(count, keys, lives, readings, s, report);
+                let answer = post_report(cells, s, report);
                 after = counted(after, answer);
                 at = next;
             }

@@ -1,6 +1,6 @@
 // A run over the octets at hand, block after block.
 ghost use mathlib.Core.Path.{_≡_};
-ghost use Rattle.ledger.specs.Ledgers.{columns, rowsOf, ledgerOf};
+ghost use Rattle.ledger.specs.Ledgers.{rowsOf, changed};
 ghost use Rattle.ledger.specs.Steps.{Kept};
 ghost use Rattle.feed.specs.Runs.{state, runOver, doneOf};
 use crate::block::Next;
@@ -8,6 +8,7 @@ use crate::block::next_block;
 use crate::block::post_block;
 use crate::totals::Totals;
 use crate::totals::with_refused;
+use ledger::cells::CELLS;
 
 // How a run over the octets at hand left off.
 pub enum Ending {
@@ -23,20 +24,11 @@ pub struct Done {
     pub ending: Ending,
 }
 
-// A run over the octets at hand, as far as they go. Only for a caller whose columns keep the rules.
-pub fn run(
-    count: &mut usize,
-    keys: &mut [u32; 256],
-    lives: &mut [u64; 256],
-    readings: &mut [u32; 256],
-    s: &[u8],
-    is_over: bool,
-    totals: Totals,
-) -> Done
-    requires { ⌜ Kept (columns (now count) (now keys) (now lives) (now readings)) ⌝ }
-    ensures { λ r. ⌜ (columns (now (count .exit)) (now (keys .exit)) (now (lives .exit)) (now (readings .exit))
-        ≡ ledgerOf (runOver (now (s .entry)) «is_over» (state (rowsOf (columns (now (count .entry)) (now (keys .entry)) (now (lives .entry)) (now (readings .entry)))) totals) .state .rows))
-        × (r ≡ doneOf (runOver (now (s .entry)) «is_over» (state (rowsOf (columns (now (count .entry)) (now (keys .entry)) (now (lives .entry)) (now (readings .entry)))) totals))) ⌝ }
+// A run over the octets at hand, as far as they go. Only for a caller whose cells keep the rules.
+pub fn run(cells: &mut [u64; CELLS], s: &[u8], is_over: bool, totals: Totals) -> Done
+    requires { ⌜ Kept (now cells) ⌝ }
+    ensures { λ r. ⌜ (now (cells .exit) ≡ changed (λ rows. runOver (now (s .entry)) «is_over» (state rows totals) .state .rows) (now (cells .entry)))
+        × (r ≡ doneOf (runOver (now (s .entry)) «is_over» (state (rowsOf (now (cells .entry))) totals))) ⌝ }
 {
     let mut after = totals;
     let mut at: usize = 0;
@@ -72,7 +64,7 @@ pub fn run(
                 at += len;
             }
             Next::Accepted(len) => {
-                after = post_block(count, keys, lives, readings, rest, len, after);
+                after = post_block(cells, rest, len, after);
                 at += len;
             }
         }

@@ -6,7 +6,6 @@ use native.Mathlib.Numerals.{add-one}
 use native.Mathlib.Omega.{arith}
 use lib.ListN.{length}
 use Rattle.blocks.specs.Statistics.{entryOf}
-use Rattle.blocks.specs.declared.statistics.Entry.{Entry as Counter}
 use Rattle.rows.specs.Rows.{Entry}
 use Rattle.ledger.specs.Reports.{entriesFrom}
 use Rattle.ledger.specs.Steps.{entry}
@@ -17,9 +16,9 @@ unfolding entriesFrom
 entries-long s first time at zero k = refl
 entries-long s first time at (suc n) k = ap suc (entries-long s first time at n (suc k))
 
--- the entry that is made of TYPE, REF and count
-abbrev pub entryFor : ℕ → ℕ → Counter → Entry
-entryFor first time x = entry (first + x .typ) time (x .reference) (x .count)
+-- TYPE, REF and count are those of the i-th entry from an offset
+abbrev pub Reads : List ℕ → ℕ → ℕ → ℕ → ℕ → ℕ → Type 0
+Reads s at i typ reference count = (typ ≡ entryOf s at i .typ) × (reference ≡ entryOf s at i .reference) × (count ≡ entryOf s at i .count)
 
 module _ (s : List ℕ) (first at n time : ℕ) where
   -- of n entries, those from the i-th on
@@ -31,12 +30,13 @@ module _ (s : List ℕ) (first at n time : ℕ) where
   left-all = ap (λ m. entriesFrom s first time at m 0) (omega arith)
 
   -- below n the i-th is the next
-  pub left-next : (i : ℕ) (x : Counter) → x ≡ entryOf s at i → i < n → left i ≡ entryFor first time x ∷ left (i + 1)
+  pub left-next : (i typ reference count : ℕ) → Reads s at i typ reference count → i < n
+      → left i ≡ entry (first + typ) time reference count ∷ left (i + 1)
   unfolding entriesFrom
-  left-next i x q h =
+  left-next i typ reference count q h =
       let more : n - i ≡ suc (n - (i + 1)) = omega arith in
       ap (λ m. entriesFrom s first time at m i) more
-      ∙ (λ p. entryFor first time (sym q p) ∷ entriesFrom s first time at (n - (i + 1)) (sym (add-one i) p))
+      ∙ (λ p. entry (first + sym (q .0) p) time (sym (q .1) p) (sym (q .2) p) ∷ entriesFrom s first time at (n - (i + 1)) (sym (add-one i) p))
 
   -- from n on none is left
   pub left-none : (i : ℕ) → n ≤ i → left i ≡ []

@@ -1,10 +1,10 @@
--- What the types say of a ledger that is passed by value: owning it tells the columns' lengths and their elements' ranges. Assumes nothing.
+-- What the types say of a ledger that is passed by value: owning it tells how many cells there are, and their range. Assumes nothing.
 use mathlib.Core.List.{List, [], _∷_, map, map-id}
 use mathlib.Core.Path.{_≡_, subst}
 use Prim.Native.Nat.{ℕ, zero, suc, _<_, _^_}
 use lib.ListN.{length, getD}
 use lib.Pow.{pow-pos}
-use mir.Syntax.{Width, w32, w64}
+use mir.Syntax.{Width, w64}
 use mir.Val.{Val, bits}
 use denote.Array.{Array, each}
 use denote.Laws.{Is}
@@ -30,12 +30,8 @@ field-fits : (w : Width) (n : ℕ) (xs : List ℕ) (vs : List Val) → Is (Array
 field-fits w n xs vs h i = subst (λ (ys : List ℕ). getD ys i 0 < 2 ^ bits w) (map-id xs) (each-fits w (map (λ x. x) xs) (h .0) (h .1 .1) i)
 
 -- for a parameter that is a ledger by value: `held _ _ (z .good .0)`, with z the record at the function's entry
-pub held : (l : Ledger) (vs : List Val) → Is (row the-type) l vs → Held l
+pub held : (l : Ledger) (vs : List Val) → Is (row the-type) l vs → Held (l .cells)
 held l vs h = record {
-  keys-long = field-long w32 256 (l .keys) _ (h .1 .1 .1 .0);
-  lives-long = field-long w64 256 (l .lives) _ (h .1 .1 .1 .1 .0);
-  readings-long = field-long w32 256 (l .readings) _ (h .1 .1 .1 .1 .1 .0);
-  keys-small = field-fits w32 256 (l .keys) _ (h .1 .1 .1 .0);
-  lives-small = field-fits w64 256 (l .lives) _ (h .1 .1 .1 .1 .0);
-  readings-small = field-fits w32 256 (l .readings) _ (h .1 .1 .1 .1 .1 .0);
+  long = field-long w64 769 (l .cells) _ (h .1 .1 .0);
+  small = field-fits w64 769 (l .cells) _ (h .1 .1 .0);
 }

@@ -10,23 +10,22 @@ use lib.Dec.{leb, eqb}
 use lib.ListN.{length, getD, set, replicate, length-set}
 use lib.Seq.{getD-set-same, getD-set-other}
 use borrow.Author.Count.{below-more}
-use borrow.Author.Tests.{lt-leb, eqb-true, eqb-false}
+use borrow.Author.Tests.{lt-leb, leb-false, eqb-true, eqb-false}
 use Rattle.octets.proofs.Cases.{test}
 use Rattle.blocks.specs.Statistics.{entryOf}
-use Rattle.blocks.specs.declared.statistics.Entry.{Entry as Counter}
-use Rattle.rows.specs.Rows.{Row, Entry, adds, reads, addUp, rowOf, has, lifeOf, orNew}
+use Rattle.blocks.proofs.SmallLaws.{count-small}
+use Rattle.rows.specs.Rows.{Row, Entry, adds, addUp, rowOf, has, lifeOf, orNew}
 use Rattle.rows.specs.Posting.{newKeys, rowsFor, addEntry, passes, Sorted}
 use Rattle.rows.proofs.Rows.{sorted-add, row-own, row-other}
 use Rattle.rows.proofs.Theorems.{adding-key}
-use Rattle.ledger.specs.Ledgers.{columns, rowsOf}
-use Rattle.ledger.specs.Reports.{entriesFrom}
-use Rattle.ledger.specs.Steps.{Kept, Found, KnownRow, Known}
-use Rattle.ledger.specs.declared.Ledger.{Ledger}
-use Rattle.ledger.proofs.ColumnLaws.{rowIn, rows-many, kept-rising}
-use Rattle.ledger.proofs.EntryLaws.{entryFor}
-use Rattle.ledger.proofs.LoopSteps.{AddLoop, add-room, add-more}
+use Rattle.ledger.specs.Ledgers.{rowIn, rowsOf, putRow}
+use Rattle.ledger.specs.Reports.{entryAt, entriesFrom}
+use Rattle.ledger.specs.Steps.{Kept, RowAt, Known, entry}
+use Rattle.ledger.proofs.CellLaws.{rows-many}
+use Rattle.ledger.proofs.EntryLaws.{Reads}
+use Rattle.ledger.proofs.LoopSteps.{AddLoop, add-none, add-low, add-more}
 use Rattle.ledger.proofs.NotedLaws.{none-seen, seen-still, seen-own}
-use Rattle.ledger.proofs.PlaceLaws.{found-row, row-fits, row-adds}
+use Rattle.ledger.proofs.PlaceLaws.{put-stays, at-row, row-adds, own-life}
 
 -- An entry raises a life count by its own count at most
 
@@ -57,62 +56,51 @@ module _ (s : List ℕ) (first time at : ℕ) where
   -- where each life count has room for so many counts none passes
   none-passes : (rows : List Row) (n k : ℕ) → Sorted rows
       → ((i : ℕ) → i < k + n → lifeOf (rowOf rows (first + entryOf s at i .typ)) + n * 2 ^ 32 ≤ 2 ^ 64)
-      → ((i : ℕ) → i < k + n → entryOf s at i .count < 2 ^ 32)
       → passes addUp rows (entriesFrom s first time at n k) ≡ false
   unfolding passes entriesFrom
-  none-passes rows zero k o h small = refl
-  none-passes rows (suc n) k o h small =
-      let e = entryFor first time (entryOf s at k) in
+  none-passes rows zero k o h = refl
+  none-passes rows (suc n) k o h =
+      let e = entryAt s first time at k in
       rw (lt-leb (2 ^ 64) (lifeOf (rowOf (addEntry addUp rows e) (e .key)))
-      (omega (arith, raises rows e o (e .key), h k (omega arith), small k (omega arith))))
+      (omega (arith, raises rows e o (e .key), h k (omega arith), count-small s at k)))
       (none-passes (addEntry addUp rows e) n (suc k) (sorted-add addUp adding-key e rows o)
-      (λ i l. omega (arith, raises rows e o (first + entryOf s at i .typ), h i (omega arith), small k (omega arith)))
-      (λ i l. small i (omega arith)))
+      (λ i l. omega (arith, raises rows e o (first + entryOf s at i .typ), h i (omega arith), count-small s at k)))
 
--- A key's row at a place is the one that is found
+-- Entries with known rows may be added up
 
-module _ (l : Ledger) (g : Kept l) (k r : ℕ) (inside : r < l .count) (same : getD (l .keys) r 0 ≡ k) where
-  known-found : Found (l .keys) (l .count) k r
-  known-found = record {
-    within = omega arith;
-    below = λ j h. omega (arith, kept-rising l g j r h inside);
-    above = λ h. omega arith;
-  }
+module _ (cells : List ℕ) (g : Kept cells) (s : List ℕ) (first at n : ℕ) (places : List ℕ) (w : Known cells s first at n places) where
+  row-at : (i : ℕ) → i < n → rowOf (rowsOf cells) (first + entryOf s at i .typ) ≡ some (rowIn cells (getD places (entryOf s at i .typ) 0))
+  row-at i h = at-row cells g (first + entryOf s at i .typ) (getD places (entryOf s at i .typ) 0) (w .rows i h)
 
-  known-row : rowOf (rowsOf l) k ≡ some (rowIn l r)
-  known-row = found-row l k r known-found inside same
-
--- so entries with such rows may be added up
-module _ (l : Ledger) (g : Kept l) (s : List ℕ) (first at n : ℕ) (places : List ℕ)
-    (w : Known (l .count) (l .keys) (l .lives) s first at n places) where
-  row-at : (i : ℕ) → i < n → rowOf (rowsOf l) (first + entryOf s at i .typ) ≡ some (rowIn l (getD places (entryOf s at i .typ) 0))
-  row-at i h = let x = w .rows i h in known-row l g _ _ (x .inside) (x .same)
-
-  pub known-adds : (time : ℕ) → (rowsFor (rowsOf l) (entriesFrom s first time at n 0) ≤ 256)
-      × (passes addUp (rowsOf l) (entriesFrom s first time at n 0) ≡ false)
+  pub known-adds : (time : ℕ) → (rowsFor (rowsOf cells) (entriesFrom s first time at n 0) ≤ 256)
+      × (passes addUp (rowsOf cells) (entriesFrom s first time at n 0) ≡ false)
   known-adds time = (
     omega (
       arith,
       g .few,
-      rows-many l,
-      ap length (none-new s first time at (rowsOf l) n 0 (λ i h. ap has (row-at i (omega arith)))),
+      rows-many cells,
+      ap length (none-new s first time at (rowsOf cells) n 0 (λ i h. ap has (row-at i (omega arith)))),
     ),
-    none-passes s first time at (rowsOf l) n 0 (g .good .rises)
-        (λ i h. omega (arith, w .few, w .rows i (omega arith) .far, ap lifeOf (row-at i (omega arith)))) (λ i h. w .small i (omega arith)),
+    none-passes s first time at (rowsOf cells) n 0 (g .good .rises)
+        (λ i h. omega (arith, w .few, w .far i (omega arith), ap lifeOf (row-at i (omega arith)))),
   )
 
 -- `all_known`
 
+-- a TYPE's row is at a place, far from the end
+abbrev pub Far : List ℕ → ℕ → ℕ → Type 0
+Far cells k i = RowAt cells k i × (rowIn cells i .life + 2 ^ 40 ≤ 2 ^ 64)
+
 -- at entry i: of each TYPE that has been seen the row is known, and those of the entries so far have been seen
-pub record LookLoop (count : ℕ) (keys lives s : List ℕ) (first at : ℕ) (seen : List Bool) (places : List ℕ) (i : ℕ) : Type 0 where
+pub record LookLoop (cells s : List ℕ) (first at : ℕ) (seen : List Bool) (places : List ℕ) (i : ℕ) : Type 0 where
   pub seen-long : length seen ≡ 256
   pub long : length places ≡ 256
-  pub rows : (u : ℕ) → getD seen u false ≡ true → KnownRow count keys lives (first + u) (getD places u 0)
-  pub so-far : (j : ℕ) → j < i → (getD seen (entryOf s at j .typ) false ≡ true) × (entryOf s at j .count < 2 ^ 32)
+  pub rows : (u : ℕ) → getD seen u false ≡ true → Far cells (first + u) (getD places u 0)
+  pub so-far : (j : ℕ) → j < i → getD seen (entryOf s at j .typ) false ≡ true
 
-module _ (count : ℕ) (keys lives s : List ℕ) (first at : ℕ) where
+module _ (cells s : List ℕ) (first at : ℕ) where
   -- at first none has been seen
-  pub look-none : (places : List ℕ) → length places ≡ 256 → LookLoop count keys lives s first at (replicate 256 false) places 0
+  pub look-none : (places : List ℕ) → length places ≡ 256 → LookLoop cells s first at (replicate 256 false) places 0
   look-none places h = record {
     seen-long = refl;
     long = h;
@@ -120,75 +108,85 @@ module _ (count : ℕ) (keys lives s : List ℕ) (first at : ℕ) where
     so-far = λ j l. absurd (omega arith);
   }
 
-  module _ (seen : List Bool) (places : List ℕ) (i : ℕ) (c : LookLoop count keys lives s first at seen places i) where
+  module _ (seen : List Bool) (places : List ℕ) (i : ℕ) (c : LookLoop cells s first at seen places i) where
     -- a TYPE is seen, and its row is known
-    pub look-mark : (t r : ℕ) → t < 256 → KnownRow count keys lives (first + t) r
-        → LookLoop count keys lives s first at (set seen t true) (set places t r) i × (getD (set seen t true) t false ≡ true)
+    pub look-mark : (t r : ℕ) → t < 256 → Far cells (first + t) r
+        → LookLoop cells s first at (set seen t true) (set places t r) i × (getD (set seen t true) t false ≡ true)
     look-mark t r h k =
         let in-seen : t < length seen = omega (arith, c .seen-long) in (
           record {
             seen-long = length-set seen t true ∙ c .seen-long;
             long = length-set places t r ∙ c .long;
             rows = seen-own seen t
-                (λ u n. subst (KnownRow count keys lives (first + u)) (sym (getD-set-other places t u r 0 (λ q. n (sym q)))))
-                (subst (KnownRow count keys lives (first + t)) (sym (getD-set-same places t r 0 (omega (arith, c .long)))) k) (c .rows);
-            so-far = λ j l. (seen-still seen t in-seen (entryOf s at j .typ) (c .so-far j l .0), c .so-far j l .1);
+                (λ u n. subst (Far cells (first + u)) (sym (getD-set-other places t u r 0 (λ q. n (sym q)))))
+                (subst (Far cells (first + t)) (sym (getD-set-same places t r 0 (omega (arith, c .long)))) k) (c .rows);
+            so-far = λ j l. seen-still seen t in-seen (entryOf s at j .typ) (c .so-far j l);
           },
           getD-set-same seen t true false in-seen,
         )
 
     -- an entry more, whose TYPE has been seen
-    pub look-more : (x : Counter) → x ≡ entryOf s at i → x .count < 2 ^ 32 → getD seen (x .typ) false ≡ true
-        → LookLoop count keys lives s first at seen places (i + 1)
-    look-more x q small t = record {
+    pub look-more : (t : ℕ) → t ≡ entryOf s at i .typ → getD seen t false ≡ true → LookLoop cells s first at seen places (i + 1)
+    look-more t q h = record {
       seen-long = c .seen-long;
       long = c .long;
       rows = c .rows;
-      so-far = below-more (λ j. (getD seen (entryOf s at j .typ) false ≡ true) × (entryOf s at j .count < 2 ^ 32)) i (c .so-far)
-          (subst (λ (y : Counter). (getD seen (y .typ) false ≡ true) × (y .count < 2 ^ 32)) q (t, small));
+      so-far = below-more (λ j. getD seen (entryOf s at j .typ) false ≡ true) i (c .so-far) (subst (λ u. getD seen u false ≡ true) q h);
     }
 
     -- at the end all are known
-    pub look-end : (n : ℕ) → n < 256 → n ≤ i → Known count keys lives s first at n places
+    pub look-end : (n : ℕ) → n < 256 → n ≤ i → Known cells s first at n places
     look-end n few h = record {
       few = few;
       long = c .long;
-      rows = λ j l. c .rows (entryOf s at j .typ) (c .so-far j (omega arith) .0);
-      small = λ j l. c .so-far j (omega arith) .1;
+      rows = λ j l. c .rows (entryOf s at j .typ) (c .so-far j (omega arith)) .0;
+      far = λ j l. c .rows (entryOf s at j .typ) (c .so-far j (omega arith)) .1;
     }
 
 -- `post_known`: an entry is added up at its row's place
 
-module _ (start : Ledger) (s : List ℕ) (first at n : ℕ) (count : ℕ) (keys lives readings : List ℕ) (i : ℕ)
-    (c : AddLoop start s first at n (columns count keys lives readings) i) (places were : List ℕ) (w : Known count keys were s first at n places)
-    (x : Counter) (q : x ≡ entryOf s at i) (less : i < n) where
-  abbrev now : Ledger
-  now = columns count keys lives readings
+-- at entry i: as in `add_all`, and the rows are where they were
+pub record KnownLoop (start s : List ℕ) (first at n : ℕ) (cells : List ℕ) (i : ℕ) : Type 0 where
+  pub added : AddLoop start s first at n cells i
+  pub stays : (k j : ℕ) → RowAt start k j → RowAt cells k j
 
-  abbrev place : ℕ
-  place = getD places (x .typ) 0
+module _ (start s : List ℕ) (first at n : ℕ) (g : Kept start) (places : List ℕ) (w : Known start s first at n places) where
+  -- at first it is as it was
+  pub known-none : KnownLoop start s first at n start 0
+  known-none = record {
+    added = add-none start s first at n g (λ time. known-adds start g s first at n places w time .0);
+    stays = λ k j a. a;
+  }
 
-  at-place : KnownRow count keys were (first + x .typ) place
-  at-place = subst (λ (y : Counter). KnownRow count keys were (first + y .typ) (getD places (y .typ) 0)) (sym q) (w .rows i less)
+  module _ (cells : List ℕ) (i : ℕ) (c : KnownLoop start s first at n cells i)
+      (t reference count : ℕ) (q : Reads s at i t reference count) (less : i < n) where
+    abbrev place : ℕ
+    place = getD places t 0
 
-  found : Found keys count (first + x .typ) place
-  found = known-found now (c .kept) (first + x .typ) place (at-place .inside) (at-place .same)
+    at-place : RowAt cells (first + t) place
+    at-place = c .stays (first + t) place (subst (λ u. RowAt start (first + u) (getD places u 0)) (sym (q .0)) (w .rows i less))
 
-  -- the place is one of 256, and the life count there does not pass
-  pub known-fits : (place < 256) × (getD lives place 0 + adds (getD readings place 0) (x .reference) (x .count) < 2 ^ 64)
-  unfolding addUp
-  known-fits = (
-    omega (arith, at-place .inside, c .kept .few),
-    row-fits addUp adding-key now (c .kept) (entryFor first 0 x) place found (at-place .inside) (at-place .same)
-        (add-room start s first at n now i c x q less 0 .1),
-  )
+    low : (time : ℕ) → leb (2 ^ 64) (lifeOf (rowOf (addEntry addUp (rowsOf cells) (entry (first + t) time reference count)) (first + t))) ≡ false
+    low time = add-low start s first at n cells i (c .added) t reference count q less time (known-adds start g s first at n places w time .1)
 
-  -- and then the others are left
-  pub known-more : (ls rs : List ℕ)
-      → (ls ≡ set lives place (getD lives place 0 + adds (getD readings place 0) (x .reference) (x .count)))
-      × (rs ≡ set readings place (reads (getD readings place 0) (x .reference) (x .count)))
-      → AddLoop start s first at n (columns count keys ls rs) (i + 1)
-  unfolding addUp
-  known-more ls rs e =
-      add-more start s first at n now i c x q less (columns count keys ls rs)
-      (λ time. row-adds addUp adding-key now (c .kept) (entryFor first time x) place found (at-place .inside) (at-place .same) ls rs e)
+    -- the place is one of 256, and the life count there does not pass
+    pub known-fits : (place < 256) × (addUp (rowIn cells place) (entry 0 0 reference count) .life < 2 ^ 64)
+    unfolding addUp
+    known-fits = (
+      omega (arith, at-place .inside, c .added .kept .few),
+      leb-false (2 ^ 64) (addUp (rowIn cells place) (entry (first + t) 0 reference count) .life)
+          (ap (leb (2 ^ 64)) (sym (own-life cells (c .added .kept) (entry (first + t) 0 reference count)
+          ∙ ap (λ o. addUp (orNew (first + t) o) (entry (first + t) 0 reference count) .life) (at-row cells (c .added .kept) (first + t) place at-place)))
+          ∙ low 0),
+    )
+
+    -- and then the others are left
+    pub known-more : first + 255 < 2 ^ 32 → (m : List ℕ)
+        → ((key time : ℕ) → m ≡ putRow cells place (addUp (rowIn cells place) (entry key time reference count))) → KnownLoop start s first at n m (i + 1)
+    known-more wide m e = record {
+      added = add-more start s first at n cells i (c .added) t reference count q less wide m
+          (λ time. (low time, e (first + t) time ∙ row-adds addUp cells (c .added .kept) (entry (first + t) time reference count) place at-place));
+      stays = λ k j a. subst (λ x. RowAt x k j) (sym (e 0 0))
+          (put-stays cells (c .added .kept) place (known-fits .0) (addUp (rowIn cells place) (entry 0 0 reference count))
+          (adding-key (rowIn cells place) (entry 0 0 reference count)) k j (c .stays k j a));
+    }

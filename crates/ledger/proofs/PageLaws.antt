@@ -1,18 +1,21 @@
 -- A page and its rows: the page of rows gives the rows back, and the rows of a page give the page. Assumes nothing.
-use mathlib.Core.Path.{_≡_, refl, sym, ap, _∙_}
+use mathlib.Core.Path.{_≡_, refl, sym, ap, _∙_, subst}
 use mathlib.Core.Bool.{true, _&&_}
-use mathlib.Core.List.{List, [], _++_, append-assoc, append-nil}
+use mathlib.Core.List.{List, [], _++_, map, append-assoc, append-nil}
 use Prim.Native.Nat.{ℕ, _+_, _*_, _≤_, _<_, _^_}
 use native.Mathlib.Omega.{arith}
 use lib.Dec.{leb, eqb}
 use lib.ListN.{length, getD, take, drop, length-append}
-use lib.Seq.{ext-getD, take-all}
+use lib.Seq.{take-all}
 use borrow.Author.Tests.{leb-true, eqb-true, le-leb, eq-eqb}
 use Rattle.octets.specs.Numbers.{Octets, number, octets}
 use Rattle.octets.proofs.Numbers.{number-lt, number-octets, length-octets, octets-number}
 use Rattle.octets.proofs.Cases.{both}
 use Rattle.rows.specs.Rows.{Row, newRow}
+use Rattle.rows.specs.Order.{upto}
 use Rattle.rows.specs.Posting.{Each}
+use Rattle.rows.proofs.Numbers.{map-same, read-upto, within-upto, at-upto}
+use Rattle.ledger.specs.Ledgers.{table}
 use Rattle.ledger.specs.Pages.{
   keysAt,
   readingsAt,
@@ -20,22 +23,18 @@ use Rattle.ledger.specs.Pages.{
   headOf,
   keyOctets,
   countOctets,
-  table,
   pageOf,
-  rowsAt,
+  rowAt,
   countIn,
+  rowsIn,
   headKeeps,
 }
 use Rattle.ledger.proofs.RowPlaces.{each-from}
-use Rattle.ledger.proofs.TableLaws.{number-in, parts, length-rows, row-in, length-table, table-get, table-put}
+use Rattle.ledger.proofs.TableLaws.{parts, listed-many, length-table, table-get, table-put}
 
 -- what the widths of the numbers hold of a row
 abbrev pub Small : Row → Type 0
 Small r = (r .key < 2 ^ 32) × (r .life < 2 ^ 64) × (r .reading < 2 ^ 32)
-
--- the rows of a page
-abbrev pub rowsIn : List ℕ → List Row
-rowsIn s = rowsAt s (countIn s) (countIn s) 0
 
 -- Lengths
 
@@ -53,6 +52,10 @@ page-long rows =
     rw (length-append, length-append, head-long, length-table keyOctets 4 key-wide, length-table countOctets 12 count-wide) (omega arith)
 
 -- The page of rows, read
+
+-- a number of any width that lies behind p
+number-in : (k v : ℕ) (p q s : List ℕ) (o : ℕ) → v < 256 ^ k → length p ≡ o → s ≡ p ++ (octets k v ++ q) → number k s o ≡ v
+number-in k v p q s o h e is = rw (is, ← e) (number-octets k v p q h)
 
 -- the four numbers of a head
 module _ (n : ℕ) (few : n ≤ 256) (q : List ℕ) where
@@ -122,13 +125,11 @@ module _ (rows : List Row) (small : Each Small rows) where
       (simp (length-append, length-octets)) (simp append-assoc))
       ahead [] page (readingsAt (length rows)) rows ahead-long (rw append-nil) small
 
-  rows-page : rowsAt page (length rows) (length rows) 0 ≡ rows
+  rows-page : map (rowAt page (length rows)) (upto (length rows)) ≡ rows
   rows-page =
-      let n = length-rows page (length rows) (length rows) 0 in
-      ext-getD (newRow 0) (rowsAt page (length rows) (length rows) 0) rows n (λ i l.
-      let m : i < length rows = omega arith in
-      let e : 0 + i ≡ i = omega arith in
-      row-in page (length rows) (length rows) 0 i m ∙ rw (e, key-back i m, life-back i m, reading-back i m))
+      map-same (rowAt page (length rows)) (λ i. getD rows i (newRow 0)) (upto (length rows))
+      (λ i h. let m = within-upto i (length rows) h in (λ p. record { key = key-back i m p; life = life-back i m p; reading = reading-back i m p }))
+      ∙ read-upto rows (newRow 0)
 
   -- The page of rows gives the rows back.
   pub page-back : length rows ≤ 256 → (headKeeps page ≡ true) × (rowsIn page ≡ rows)
@@ -137,14 +138,15 @@ module _ (rows : List Row) (small : Each Small rows) where
       let e : page ≡ headOf (length rows) ++ q = append-assoc (headOf (length rows)) (table keyOctets rows) (table countOctets rows) in
       let h = head-back (length rows) few q (ap length (sym e) ∙ page-long rows) in
       let c : countIn page ≡ length rows = ap countIn e ∙ h .0 in
-      (ap headKeeps e ∙ h .1, ap (λ n. rowsAt page n n 0) c ∙ rows-page)
+      (ap headKeeps e ∙ h .1, ap (λ n. map (rowAt page n) (upto n)) c ∙ rows-page)
 
 -- The rows of a page, stored
 
 -- the numbers of a page are small
 pub small-in : (s : List ℕ) → Octets s → Each Small (rowsIn s)
 small-in s o =
-    each-from Small (rowsIn s) (λ i l. rw (row-in s (countIn s) (countIn s) 0 i (rw (length-rows s (countIn s) (countIn s) 0) at l))
+    each-from Small (rowsIn s) (λ i l.
+    subst Small (sym (at-upto (rowAt s (countIn s)) (newRow 0) i (countIn s) (rw (listed-many (rowAt s (countIn s)) (countIn s)) at l)))
     (number-lt 4 s _ o, number-lt 8 s _ o, number-lt 4 s _ o))
 
 -- what the tests on a head say
@@ -195,23 +197,21 @@ module _ (s : List ℕ) (o : Octets s) (w : Head s) where
         parts s 0 6 2,
       )
 
-  keys-put : table keyOctets (rowsAt s n n 0) ≡ part keysAt (4 * n)
+  keys-put : table keyOctets (rowsIn s) ≡ part keysAt (4 * n)
   keys-put =
       let l = w .long in
-      table-put keyOctets 4 key-wide s n keysAt (λ i h. octets-number 4 s (keysAt + 4 * i) (omega arith) o) n 0 (omega arith)
+      table-put keyOctets 4 key-wide s (rowAt s n) n keysAt (λ i h. octets-number 4 s (keysAt + 4 * i) (omega arith) o) n (omega arith)
 
-  counts-put : table countOctets (rowsAt s n n 0) ≡ part (readingsAt n) (12 * n)
+  counts-put : table countOctets (rowsIn s) ≡ part (readingsAt n) (12 * n)
   counts-put =
       let l = w .long in
-      let e : readingsAt n + 12 * 0 ≡ readingsAt n = omega arith in
-      rw e at
-      (table-put countOctets 12 count-wide s n (readingsAt n) (λ i h. let at = readingsAt n + 12 * i in
-      rw (octets-number 8 s at (omega arith) o, octets-number 4 s (at + 8) (omega arith) o) (parts s at 8 4)) n 0 (omega arith))
+      table-put countOctets 12 count-wide s (rowAt s n) n (readingsAt n) (λ i h. let at = readingsAt n + 12 * i in
+      rw (octets-number 8 s at (omega arith) o, octets-number 4 s (at + 8) (omega arith) o) (parts s at 8 4)) n (omega arith)
 
   -- The rows of a page give the page.
   pub page-rows : pageOf (rowsIn s) ≡ s
   page-rows =
       let l = w .long in
       let e : 0 + readingsAt n ≡ readingsAt n = omega arith in
-      rw (length-rows s n n 0, head-put, keys-put, counts-put, parts s 0 8 (4 * n), rw e at (parts s 0 (readingsAt n) (12 * n)))
+      rw (listed-many (rowAt s n) n, head-put, keys-put, counts-put, parts s 0 8 (4 * n), rw e at (parts s 0 (readingsAt n) (12 * n)))
       (take-all (readingsAt n + 12 * n) s (omega arith))

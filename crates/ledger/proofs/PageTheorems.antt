@@ -2,82 +2,83 @@
 use mathlib.Core.Path.{_≡_, refl, sym, ap, _∙_, subst}
 use mathlib.Core.Bool.{true, _&&_}
 use mathlib.Core.List.{List, []}
-use Prim.Native.Nat.{ℕ, _≤_}
+use Prim.Native.Nat.{ℕ, zero, suc, _≤_, _<_, _^_}
 use native.Mathlib.Omega.{arith}
-use lib.ListN.{length}
+use lib.ListN.{length, getD}
 use Rattle.octets.specs.Numbers.{Octets}
 use Rattle.octets.specs.Outcomes.{puts}
 use Rattle.octets.specs.Refusals.{rulesBroken}
 use Rattle.octets.proofs.Cases.{test, both}
 use Rattle.rows.specs.Rows.{Row}
 use Rattle.rows.specs.Posting.{Each}
-use Rattle.ledger.specs.Ledgers.{answer, rowsOf, ledgerOf, keepsRules, Held}
-use Rattle.ledger.specs.Pages.{pageOf, ledgerIn, headKeeps, countIn, loadOf, storeOf}
-use Rattle.ledger.specs.Steps.{Kept}
+use Rattle.ledger.specs.Ledgers.{wide, rowCells, answer, rowsOf, cellsOf, keepsRules, Held}
+use Rattle.ledger.specs.Pages.{pageOf, rowAt, countIn, rowsIn, cellsIn, headKeeps, loadOf, storeOf}
+use Rattle.ledger.specs.Steps.{Narrow, Kept}
 use Rattle.ledger.specs.declared.Answer.{Answer}
-use Rattle.ledger.specs.declared.Ledger.{Ledger}
-use Rattle.ledger.proofs.ColumnLaws.{col-long, rows-many, rows-get, rows-back, kept-of}
-use Rattle.ledger.proofs.RowPlaces.{each-from, each-map, column-small}
+use Rattle.ledger.proofs.CellLaws.{cells-long, cells-small, rows-back, kept-of, ruled-none}
+use Rattle.ledger.proofs.RowPlaces.{each-from, each-at}
 use Rattle.ledger.proofs.RuleLaws.{kept-rules}
-use Rattle.ledger.proofs.TableLaws.{length-rows}
-use Rattle.ledger.proofs.PageLaws.{Small, rowsIn, small-in, page-back, head-says, page-rows}
+use Rattle.ledger.proofs.TableLaws.{listed-many}
+use Rattle.ledger.proofs.PageLaws.{Small, small-in, page-back, head-says, page-rows}
 use Rattle.ledger.proofs.PageSteps.{load-kept}
 use Rattle.ledger.proofs.PutSteps.{store-puts}
 
--- What the widths hold of the rows of a ledger, and of the ledger of rows
+-- What the rules and the widths hold of rows
 
-held-small : (l : Ledger) → Held l → Each Small (rowsOf l)
-held-small l h =
-    each-from Small (rowsOf l)
-    (λ i m. rw (rows-get l i (rw (rows-many l) at m)) (h .keys-small i, h .lives-small i, h .readings-small i))
+kept-small : (cells : List ℕ) → Kept cells → Each Small (rowsOf cells)
+kept-small cells k =
+    each-from Small (rowsOf cells) (λ i m.
+    let n = each-at Narrow (rowsOf cells) (k .narrow) i m in
+    (n .0, each-at (λ r. r .life < 2 ^ 64) (rowsOf cells) (k .good .lived) i m, n .1))
 
-small-held : (rows : List Row) → length rows ≤ 256 → Each Small rows → Held (ledgerOf rows)
-unfolding ledgerOf
+part-small : (r : Row) → Small r → (j : ℕ) → j < wide → getD (rowCells r) j 0 < 2 ^ 64
+part-small r s zero h = omega arith
+part-small r s (suc zero) h = s .1
+part-small r s (suc (suc zero)) h = omega arith
+part-small r s (suc (suc (suc j))) h = absurd (omega arith)
+
+small-held : (rows : List Row) → length rows ≤ 256 → Each Small rows → Held (cellsOf rows)
 small-held rows few small = record {
-  keys-long = col-long (λ r. r .key) rows few;
-  lives-long = col-long (λ r. r .life) rows few;
-  readings-long = col-long (λ r. r .reading) rows few;
-  keys-small = column-small (λ r. r .key) rows _ (omega arith) (each-map Small _ (λ r s. s .0) rows small);
-  lives-small = column-small (λ r. r .life) rows _ (omega arith) (each-map Small _ (λ r s. s .1) rows small);
-  readings-small = column-small (λ r. r .reading) rows _ (omega arith) (each-map Small _ (λ r s. s .2) rows small);
+  long = cells-long rows few;
+  small = cells-small rows few (2 ^ 64) (omega arith) (λ i m. part-small _ (each-at Small rows small i m));
 }
 
 -- loading, by its tests
-load-cases : (P : Answer → Type 0) (s : List ℕ) → (headKeeps s ≡ true → keepsRules (ledgerIn s) ≡ true → P (answer 0 (ledgerIn s)))
-    → P (answer rulesBroken (ledgerOf [])) → P (loadOf s)
+load-cases : (P : Answer → Type 0) (s : List ℕ) → (headKeeps s ≡ true → keepsRules (cellsIn s) ≡ true → P (answer 0 (cellsIn s)))
+    → P (answer rulesBroken (cellsOf [])) → P (loadOf s)
 unfolding loadOf
 load-cases P s good bad =
-    test (headKeeps s && keepsRules (ledgerIn s))
-    (λ t. let w = both (headKeeps s) (keepsRules (ledgerIn s)) t in rw t (good (w .0) (w .1)))
+    test (headKeeps s && keepsRules (cellsIn s))
+    (λ t. let w = both (headKeeps s) (keepsRules (cellsIn s)) t in rw t (good (w .0) (w .1)))
     (λ f. rw f bad)
 
 -- Loading what was stored gives the ledger back.
-pub store-load : (l : Ledger) → Held l → keepsRules l ≡ true → loadOf (pageOf (rowsOf l)) ≡ answer 0 l
-store-load l h k =
-    let kept = kept-rules l h k in
-    let w = page-back (rowsOf l) (held-small l h) (kept .good .few) in
-    let is : ledgerIn (pageOf (rowsOf l)) ≡ l = ap ledgerOf (w .1) ∙ sym (kept .rest) in
-    sym (load-kept (pageOf (rowsOf l)) _ refl (w .0) l (sym is) _ refl k)
+pub store-load : (cells : List ℕ) → Held cells → keepsRules cells ≡ true → loadOf (pageOf (rowsOf cells)) ≡ answer 0 cells
+store-load cells h k =
+    let kept = kept-rules cells h k in
+    let w = page-back (rowsOf cells) (kept-small cells kept) (kept .good .few) in
+    let is : cellsIn (pageOf (rowsOf cells)) ≡ cells = ap cellsOf (w .1) ∙ sym (kept .rest) in
+    sym (load-kept (pageOf (rowsOf cells)) _ refl (w .0) cells (sym is) _ refl k)
 
 -- Storing what was loaded gives the octets.
-pub load-store : (s : List ℕ) → Octets s → (l : Ledger) → loadOf s ≡ answer 0 l → storeOf l ≡ puts s
-load-store s o l =
-    load-cases (λ a. a ≡ answer 0 l → storeOf l ≡ puts s) s
-    (λ h k e. subst (λ m. storeOf m ≡ puts s) (ap (λ a. a .ledger) e)
-    (store-puts (ledgerIn s) _ refl k ∙ ap puts (ap pageOf (rows-back (rowsIn s)) ∙ page-rows s o (head-says s h))))
+pub load-store : (s : List ℕ) → Octets s → (cells : List ℕ) → loadOf s ≡ answer 0 cells → storeOf cells ≡ puts s
+load-store s o cells =
+    load-cases (λ a. a ≡ answer 0 cells → storeOf cells ≡ puts s) s
+    (λ h k e. subst (λ m. storeOf m ≡ puts s) (ap (λ a. a .ledger .cells) e)
+    (store-puts (cellsIn s) _ refl k ∙ ap puts (ap pageOf (rows-back (rowsIn s)) ∙ page-rows s o (head-says s h))))
     (λ e. let z : rulesBroken ≡ 0 = ap (λ a. a .number) e in absurd (omega arith))
 
--- What is loaded has the widths of a ledger, and a fresh ledger has them too.
-pub loaded-held : (s : List ℕ) → Octets s → Held (loadOf s .ledger)
+-- What is loaded has the cells of a ledger, and a fresh ledger has them too.
+pub loaded-held : (s : List ℕ) → Octets s → Held (loadOf s .ledger .cells)
 loaded-held s o =
-    load-cases (λ a. Held (a .ledger)) s
-    (λ h k. small-held (rowsIn s) (rw (length-rows s (countIn s) (countIn s) 0) (head-says s h .few)) (small-in s o))
+    load-cases (λ a. Held (a .ledger .cells)) s
+    (λ h k. small-held (rowsIn s) (rw (listed-many (rowAt s (countIn s)) (countIn s)) (head-says s h .few)) (small-in s o))
     (small-held [] (omega arith) tt)
 
 -- What is loaded keeps the rules, and so does a fresh ledger.
-pub loaded-good : (s : List ℕ) → Octets s → Kept (loadOf s .ledger)
+pub loaded-good : (s : List ℕ) → Octets s → Kept (loadOf s .ledger .cells)
 loaded-good s o =
-    load-cases (λ a. Held (a .ledger) → Kept (a .ledger)) s
-    (λ h k held. kept-rules (ledgerIn s) held k)
-    (λ held. kept-of [] (record { rises = tt; few = omega arith; read = tt; lived = tt }))
+    load-cases (λ a. Held (a .ledger .cells) → Kept (a .ledger .cells)) s
+    (λ h k held. kept-rules (cellsIn s) held k)
+    (λ held. kept-of [] ruled-none)
     (loaded-held s o)

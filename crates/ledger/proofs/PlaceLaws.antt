@@ -1,22 +1,23 @@
 -- The place that a key has among rows: what it says of the key's row, and of rows with an entry added up. Assumes nothing.
-use mathlib.Core.Bool.{false}
+use mathlib.Core.Bool.{true, false, true≢false}
 use mathlib.Core.List.{List, [], _∷_, _++_}
 use mathlib.Core.Option.{none, some}
 use mathlib.Core.Path.{_≡_, refl, ap, sym, _∙_}
-use Prim.Native.Nat.{ℕ, zero, suc, _+_, _≤_, _<_, _^_}
+use Prim.Native.Nat.{ℕ, zero, suc, _≤_, _<_}
 use native.Mathlib.Nat.{le-of-suc-le-suc, not-suc-le-zero}
 use native.Mathlib.Omega.{arith}
-use lib.Dec.{leb}
+use lib.Dec.{ltb, eqb}
 use lib.ListN.{length, getD, take, drop, set}
-use lib.Seq.{set-getD}
-use borrow.Author.Tests.{leb-false, lt-ltb, le-ltb, eq-eqb, ne-eqb}
-use Rattle.rows.specs.Rows.{Row, Entry, newRow, rowOf, lifeOf}
+use borrow.Author.Tests.{lt-ltb, le-ltb, ltb-true, ltb-false, eq-eqb, ne-eqb, eqb-true, eqb-false}
+use Rattle.octets.proofs.Cases.{test}
+use Rattle.rows.specs.Rows.{Row, Entry, newRow, addUp, rowOf, has, lifeOf, orNew}
 use Rattle.rows.specs.Posting.{addEntry, Sorted}
 use Rattle.rows.proofs.Rows.{head-row, tail-row, before-none, row-own, length-add}
-use Rattle.ledger.specs.Ledgers.{columns, rowsOf, ledgerOf}
-use Rattle.ledger.specs.Steps.{Kept, Found, opened}
-use Rattle.ledger.specs.declared.Ledger.{Ledger}
-use Rattle.ledger.proofs.ColumnLaws.{rowIn, rows-many, rows-get, setRow, openRow, set-row, open-row}
+use Rattle.rows.proofs.Theorems.{adding-key}
+use Rattle.ledger.specs.Ledgers.{rowIn, countOf, rowsOf, cellsOf, putRow}
+use Rattle.ledger.specs.Steps.{Kept, Found, RowAt}
+use Rattle.ledger.proofs.CellLaws.{rows-many, rows-get, kept-long, kept-rising}
+use Rattle.ledger.proofs.ChangeLaws.{put-head, put-own, put-other, set-row}
 
 -- A place among rows
 
@@ -94,81 +95,119 @@ module _ (rule : Row → Entry → Row) where
       past-first r rows e (first-below r rows (e .key) i (m .placed))
       ∙ ap (λ l. r ∷ l) (missed-add rows e i (rest-missed r rows (e .key) i m))
 
--- A place found among a ledger's keys
+-- A place found among a ledger's rows
 
-module _ (l : Ledger) (k i : ℕ) (f : Found (l .keys) (l .count) k i) where
-  -- it is a place among its rows
-  found-placed : Placed (rowsOf l) k i
+module _ (cells : List ℕ) (k i : ℕ) (f : Found cells k i) where
+  -- it is a place among them
+  found-placed : Placed (rowsOf cells) k i
   found-placed = record {
-    within = omega (arith, f .within, rows-many l);
-    below = λ j h. omega (arith, f .below j h, ap (λ r. r .key) (rows-get l j (omega (arith, f .within))));
+    within = omega (arith, f .within, rows-many cells);
+    below = λ j h. omega (arith, f .below j h, ap (λ r. r .key) (rows-get cells j (omega (arith, f .within))));
   }
 
-  -- the key stands there
-  module _ (h : i < l .count) (same : getD (l .keys) i 0 ≡ k) where
-    found-met : Met (rowsOf l) k i
+  -- the key has its row there
+  module _ (a : RowAt cells k i) where
+    found-met : Met (rowsOf cells) k i
     found-met = record {
       placed = found-placed;
-      inside = omega (arith, rows-many l);
-      same = ap (λ r. r .key) (rows-get l i h) ∙ same;
+      inside = omega (arith, a .inside, rows-many cells);
+      same = ap (λ r. r .key) (rows-get cells i (a .inside)) ∙ a .same;
     }
 
-    pub found-row : rowOf (rowsOf l) k ≡ some (rowIn l i)
-    found-row = met-row (rowsOf l) k i found-met ∙ ap some (rows-get l i h)
+    pub found-row : rowOf (rowsOf cells) k ≡ some (rowIn cells i)
+    found-row = met-row (rowsOf cells) k i found-met ∙ ap some (rows-get cells i (a .inside))
 
   -- it does not
-  module _ (other : i < l .count → getD (l .keys) i 0 ≡ k → ⊥) where
-    found-missed : Missed (rowsOf l) k i
+  module _ (other : RowAt cells k i → ⊥) where
+    found-missed : Missed (rowsOf cells) k i
     found-missed = record {
       placed = found-placed;
       above = λ h.
-          let m : i < l .count = omega (arith, rows-many l) in
-          omega (arith, other m, f .above m, ap (λ r. r .key) (rows-get l i m));
+          let m : i < countOf cells = omega (arith, rows-many cells) in
+          let n : rowIn cells i .key ≡ k → ⊥ = λ q. other (record { inside = m; same = q }) in
+          omega (arith, f .above m, ap (λ r. r .key) (rows-get cells i m));
     }
 
-    pub found-none : Kept l → rowOf (rowsOf l) k ≡ none
-    found-none g = missed-row (rowsOf l) k i (g .good .rises) found-missed
+    pub found-none : Kept cells → rowOf (rowsOf cells) k ≡ none
+    found-none g = missed-row (rowsOf cells) k i (g .good .rises) found-missed
 
--- An entry of that key added up, by any rule that keeps the key
+  -- whether it does is told by the test of the place
+  pub found-has : Kept cells → i < countOf cells → eqb (rowIn cells i .key) k ≡ has (rowOf (rowsOf cells) k)
+  found-has g h =
+      test (eqb (rowIn cells i .key) k) (λ t. t ∙ sym (ap has (found-row (record { inside = h; same = eqb-true _ k t }))))
+      (λ n. n ∙ sym (ap has (found-none (λ a. eqb-false _ k n (a .same)) g)))
 
-module _ (rule : Row → Entry → Row) (keeps-key : (r : Row) (e : Entry) → rule r e .key ≡ r .key)
-    (l : Ledger) (g : Kept l) (e : Entry) (i : ℕ) (f : Found (l .keys) (l .count) (e .key) i) where
-  module _ (h : i < l .count) (same : getD (l .keys) i 0 ≡ e .key) where
-    -- the life count of its row does not pass
-    pub row-fits : leb (2 ^ 64) (lifeOf (rowOf (addEntry rule (rowsOf l) e) (e .key))) ≡ false → rule (rowIn l i) e .life < 2 ^ 64
-    row-fits low =
-        leb-false (2 ^ 64) (rule (rowIn l i) e .life)
-        (rw (row-own rule keeps-key e (rowsOf l) (g .good .rises), found-row l (e .key) i f h same) at low)
+  -- and tells it
+  pub has-not : has (rowOf (rowsOf cells) k) ≡ false → RowAt cells k i → ⊥
+  has-not n a = true≢false (sym (ap has (found-row a)) ∙ n)
 
-    -- its row changes
-    pub row-adds : (ls rs : List ℕ) → (ls ≡ set (l .lives) i (rule (rowIn l i) e .life)) × (rs ≡ set (l .readings) i (rule (rowIn l i) e .reading))
-        → columns (l .count) (l .keys) ls rs ≡ ledgerOf (addEntry rule (rowsOf l) e)
-    row-adds ls rs o =
-        let x = rule (rowIn l i) e in
-        let key : l .keys ≡ set (l .keys) i (x .key) = sym (ap (set (l .keys) i) (keeps-key (rowIn l i) e) ∙ set-getD (l .keys) i 0) in
-        (λ p. columns (l .count) (key p) (o .0 p) (o .1 p))
-        ∙ ap (λ m. setRow m i x) (g .rest)
-        ∙ set-row (rowsOf l) i x (omega (arith, rows-many l))
-        ∙ ap (λ r. ledgerOf (set (rowsOf l) i (rule r e))) (sym (rows-get l i h))
-        ∙ ap ledgerOf (sym (met-add rule (rowsOf l) e i (found-met l (e .key) i f h same)))
+  pub has-at : Kept cells → has (rowOf (rowsOf cells) k) ≡ true → RowAt cells k i
+  has-at g t =
+      test (ltb i (countOf cells))
+      (λ l. let h = ltb-true i (countOf cells) l in record { inside = h; same = eqb-true _ k (found-has g h ∙ t) })
+      (λ l. absurd (true≢false (sym t ∙ ap has (found-none (λ a. omega (arith, a .inside, ltb-false i (countOf cells) l)) g))))
 
-  module _ (other : i < l .count → getD (l .keys) i 0 ≡ e .key → ⊥) (fits : length (addEntry rule (rowsOf l) e) ≤ 256) where
-    -- there is room for a row more
-    pub new-room : l .count < 256
-    new-room =
-        let one = rw (found-none l (e .key) i f other g) at (length-add rule keeps-key e (rowsOf l) (g .good .rises)) in
-        omega (arith, rows-many l)
+-- A key that has its row at a place
 
-    -- and there is one
-    pub new-adds : (life reading : ℕ) → life ≡ rule (newRow (e .key)) e .life → reading ≡ rule (newRow (e .key)) e .reading
-        → (ks ls rs : List ℕ) → (ks ≡ opened (l .count) i (e .key) (l .keys)) × (ls ≡ opened (l .count) i life (l .lives))
-        × (rs ≡ opened (l .count) i reading (l .readings))
-        → columns (l .count + 1) ks ls rs ≡ ledgerOf (addEntry rule (rowsOf l) e)
-    new-adds life reading a b ks ls rs o =
-        let x = rule (newRow (e .key)) e in
-        let at : ℕ → List ℕ → List ℕ = opened (l .count) i in
-        (λ p. columns (l .count + 1) (o .0 p) (o .1 p) (o .2 p))
-        ∙ (λ p. columns (l .count + 1) (at (sym (keeps-key (newRow (e .key)) e) p) (l .keys)) (at (a p) (l .lives)) (at (b p) (l .readings)))
-        ∙ ap (λ m. openRow m i x) (g .rest)
-        ∙ open-row (rowsOf l) i x (omega (arith, new-room, rows-many l)) (omega (arith, f .within, rows-many l))
-        ∙ ap ledgerOf (sym (missed-add rule (rowsOf l) e i (found-missed l (e .key) i f other)))
+module _ (cells : List ℕ) (g : Kept cells) (k i : ℕ) (a : RowAt cells k i) where
+  at-found : Found cells k i
+  at-found = record {
+    within = omega (arith, a .inside);
+    below = λ j h. omega (arith, kept-rising cells g j i h (a .inside), a .same);
+    above = λ h. omega (arith, a .same);
+  }
+
+  pub at-row : rowOf (rowsOf cells) k ≡ some (rowIn cells i)
+  at-row = found-row cells k i at-found a
+
+-- with a row of the same key put into a place it stays where it is
+pub put-stays : (cells : List ℕ) → Kept cells → (i : ℕ) → i < 256 → (x : Row) → x .key ≡ rowIn cells i .key
+    → (k j : ℕ) → RowAt cells k j → RowAt (putRow cells i x) k j
+put-stays cells g i h x same k j a =
+    let long = kept-long cells g in
+    record {
+      inside = omega (arith, a .inside, put-head cells long i h x 0 (omega arith));
+      same = test (eqb j i)
+          (λ t. let e = eqb-true j i t in
+          ap (λ n. rowIn (putRow cells i x) n .key) e ∙ ap (λ r. r .key) (put-own cells long i h x) ∙ same ∙ ap (λ n. rowIn cells n .key) (sym e) ∙ a .same)
+          (λ f. ap (λ r. r .key) (put-other cells long i h x j (eqb-false j i f)) ∙ a .same);
+    }
+
+-- its row changes by an entry of the key
+
+module _ (rule : Row → Entry → Row) (cells : List ℕ) (g : Kept cells) (e : Entry) (i : ℕ) (a : RowAt cells (e .key) i) where
+  pub row-adds : putRow cells i (rule (rowIn cells i) e) ≡ cellsOf (addEntry rule (rowsOf cells) e)
+  row-adds =
+      let rows = rowsOf cells in
+      let x = rule (rowIn cells i) e in
+      ap (λ c. putRow c i x) (g .rest)
+      ∙ set-row rows i x (g .good .few) (omega (arith, a .inside, rows-many cells))
+      ∙ ap (λ r. cellsOf (set rows i (rule r e))) (sym (rows-get cells i (a .inside)))
+      ∙ ap cellsOf (sym (met-add rule rows e i (found-met cells (e .key) i (at-found cells g (e .key) i a) a)))
+
+-- An entry added up to its key's row or to a new one
+
+module _ (cells : List ℕ) (g : Kept cells) (e : Entry) where
+  abbrev rows : List Row
+  rows = rowsOf cells
+
+  -- its life count
+  pub own-life : lifeOf (rowOf (addEntry addUp rows e) (e .key)) ≡ addUp (orNew (e .key) (rowOf rows (e .key))) e .life
+  own-life = ap lifeOf (row-own addUp adding-key e rows (g .good .rises))
+
+  module _ (i : ℕ) (f : Found cells (e .key) i) (x : Row) (is : x ≡ addUp (orNew (e .key) (rowOf rows (e .key))) e) where
+    -- the row changes
+    pub put-adds : has (rowOf rows (e .key)) ≡ true → putRow cells i x ≡ cellsOf (addEntry addUp rows e)
+    put-adds t =
+        let a = has-at cells (e .key) i f g t in
+        ap (putRow cells i) (is ∙ ap (λ o. addUp (orNew (e .key) o) e) (found-row cells (e .key) i f a)) ∙ row-adds addUp cells g e i a
+
+    -- or there is one more, for which there is room
+    pub open-adds : has (rowOf rows (e .key)) ≡ false → cellsOf (take i rows ++ x ∷ drop i rows) ≡ cellsOf (addEntry addUp rows e)
+    open-adds n =
+        let other = has-not cells (e .key) i f n in
+        ap (λ y. cellsOf (take i rows ++ y ∷ drop i rows)) (is ∙ ap (λ o. addUp (orNew (e .key) o) e) (found-none cells (e .key) i f other g))
+        ∙ ap cellsOf (sym (missed-add addUp rows e i (found-missed cells (e .key) i f other)))
+
+  pub open-room : length (addEntry addUp rows e) ≤ 256 → has (rowOf rows (e .key)) ≡ false → countOf cells < 256
+  open-room fits n = let one = rw n at (length-add addUp adding-key e rows (g .good .rises)) in omega (arith, rows-many cells)

@@ -1,7 +1,7 @@
 -- A page written: the four numbers of its head, and the tables, row by row. Assumes nothing.
 use mathlib.Core.Path.{_≡_, refl, sym, ap, _∙_}
 use mathlib.Core.Bool.{Bool, true, false}
-use mathlib.Core.List.{List, _++_}
+use mathlib.Core.List.{List, [], _∷_, _++_, map}
 use Prim.Native.Nat.{ℕ, _+_, _*_, _≤_, _<_}
 use native.Mathlib.Numerals.{add-one}
 use native.Mathlib.Omega.{arith}
@@ -14,45 +14,55 @@ use Rattle.octets.proofs.Numbers.{length-octets}
 use Rattle.octets.proofs.Laying.{laid-none, laid-laid}
 use Rattle.octets.proofs.Outcomes.{Says, says-short, says-puts}
 use Rattle.rows.specs.Rows.{Row}
-use Rattle.ledger.specs.Ledgers.{columns, rowsFrom, rowsOf, keepsRules}
-use Rattle.ledger.specs.Pages.{keysAt, readingsAt, pageLength, headOf, keyOctets, countOctets, table, pageOf, storeOf}
-use Rattle.ledger.specs.declared.Ledger.{Ledger}
+use Rattle.rows.specs.Order.{upto}
+use Rattle.ledger.specs.Ledgers.{rowIn, countOf, rowsOf, table, keepsRules}
+use Rattle.ledger.specs.Pages.{keysAt, readingsAt, pageLength, headOf, keyOctets, countOctets, pageOf, storeOf}
+use Rattle.ledger.specs.Steps.{Kept}
 use Rattle.ledger.proofs.RuleTests.{rules-few}
-use Rattle.ledger.proofs.ColumnLaws.{rowIn, rows-many}
-use Rattle.ledger.proofs.RowPlaces.{rows-more}
-use Rattle.ledger.proofs.TableLaws.{length-table, table-laid}
+use Rattle.ledger.proofs.CellLaws.{rows-many}
+use Rattle.ledger.proofs.TableLaws.{listed-many, listed-more, length-table, table-laid}
 use Rattle.ledger.proofs.PageLaws.{key-wide, head-long, page-long}
 
 -- A table being filled from an offset on: the first i rows of n so far
-pub record Filled (f : Row → List ℕ) (at n : ℕ) (keys lives readings out₀ out : List ℕ) (i : ℕ) : Type 0 where
-  pub few : n ≤ 256
+pub record Filled (f : Row → List ℕ) (at n : ℕ) (cells out₀ out : List ℕ) (i : ℕ) : Type 0 where
+  pub kept : Kept cells
+  pub count : n ≡ countOf cells
   pub room : pageLength n ≤ length out₀
   pub within : i ≤ n
   pub long : length out ≡ length out₀
-  pub is : out ≡ laid out₀ at (table f (rowsFrom i keys lives readings))
+  pub is : out ≡ laid out₀ at (table f (map (rowIn cells) (upto i)))
 
-module _ (f : Row → List ℕ) (at n : ℕ) (keys lives readings out₀ : List ℕ) where
-  pub filled-none : n ≤ 256 → pageLength n ≤ length out₀ → Filled f at n keys lives readings out₀ out₀ 0
-  unfolding rowsFrom table octets
-  filled-none few room = record { few = few; room = room; within = omega arith; long = refl; is = sym (laid-none out₀ at 0) }
+module _ (f : Row → List ℕ) (at n : ℕ) (cells out₀ : List ℕ) where
+  pub filled-none : Kept cells → n ≡ countOf cells → pageLength n ≤ length out₀ → Filled f at n cells out₀ out₀ 0
+  unfolding upto table octets
+  filled-none kept count room = record {
+    kept = kept;
+    count = count;
+    room = room;
+    within = omega arith;
+    long = refl;
+    is = sym (laid-none out₀ at 0);
+  }
 
-  module _ (out : List ℕ) (i : ℕ) (w : Filled f at n keys lives readings out₀ out i) where
+  module _ (out : List ℕ) (i : ℕ) (w : Filled f at n cells out₀ out i) where
     -- one row of k octets more
-    pub filled-more : (k : ℕ) → ((r : Row) → length (f r) ≡ k) → i < n → at + k * i ≤ pageLength n → (out' : List ℕ) → length out' ≡ length out
-        → out' ≡ laid out (at + k * i) (f (rowIn (columns n keys lives readings) i)) → Filled f at n keys lives readings out₀ out' (i + 1)
-    filled-more k wide l fits out' same e =
-        let m = rows-many (columns i keys lives readings) in
-        let r = rowIn (columns n keys lives readings) i in
-        let put = table-laid f k wide out₀ at (rowsFrom i keys lives readings) r (rw m (omega (arith, w .room))) in
+    pub filled-more : (k : ℕ) → ((r : Row) → length (f r) ≡ k) → i < n → at + k * i ≤ pageLength n → (r : Row) → r ≡ rowIn cells i
+        → (out' : List ℕ) → length out' ≡ length out → out' ≡ laid out (at + k * i) (f r) → Filled f at n cells out₀ out' (i + 1)
+    filled-more k wide l fits r q out' same e =
+        let rows = map (rowIn cells) (upto i) in
+        let m : length rows ≡ i = listed-many (rowIn cells) i in
+        let put = table-laid f k wide out₀ at rows r (rw m (omega (arith, w .room))) in
         record {
-          few = w .few;
+          kept = w .kept;
+          count = w .count;
           room = w .room;
           within = omega arith;
           long = same ∙ w .long;
-          is = e ∙ ap (λ x. laid x (at + k * i) (f r)) (w .is) ∙ rw m at put ∙ rw (add-one, rows-more i n keys lives readings);
+          is = e ∙ ap (λ x. laid x (at + k * i) (f r)) (w .is) ∙ rw m at put
+              ∙ ap (λ rs. laid out₀ at (table f rs)) (ap (λ x. rows ++ (x ∷ [])) q ∙ sym (ap (λ j. map (rowIn cells) (upto j)) (add-one i) ∙ listed-more (rowIn cells) i));
         }
 
-    pub filled-all : n ≤ i → out ≡ laid out₀ at (table f (rowsFrom n keys lives readings))
+    pub filled-all : n ≤ i → out ≡ laid out₀ at (table f (map (rowIn cells) (upto n)))
     filled-all l = let e : i ≡ n = omega (arith, w .within) in rw e at (w .is)
 
 -- octets laid where others end
@@ -78,40 +88,40 @@ module _ (n : ℕ) (l l₁ l₂ l₃ l₄ : List ℕ) (room : pageLength n ≤ l
       let y = behind l l₂ l₃ 0 4 (a ++ b) c (simp (length-append, length-octets)) (omega arith) x e₃ in
       behind l l₃ l₄ 0 6 (a ++ b ++ c) (octets 2 (pageLength n)) (simp (length-append, length-octets)) (omega arith) y e₄
 
-  pub page-laid : (keys lives readings l₅ l₆ : List ℕ) → l₅ ≡ laid l₄ keysAt (table keyOctets (rowsFrom n keys lives readings))
-      → l₆ ≡ laid l₅ (readingsAt n) (table countOctets (rowsFrom n keys lives readings))
-      → l₆ ≡ laid l 0 (pageOf (rowsOf (columns n keys lives readings)))
-  page-laid keys lives readings l₅ l₆ e₅ e₆ =
-      let rows = rowsFrom n keys lives readings in
-      let m = rows-many (columns n keys lives readings) in
+  pub page-laid : (cells l₅ l₆ : List ℕ) → n ≡ countOf cells → l₅ ≡ laid l₄ keysAt (table keyOctets (map (rowIn cells) (upto n)))
+      → l₆ ≡ laid l₅ (readingsAt n) (table countOctets (map (rowIn cells) (upto n))) → l₆ ≡ laid l 0 (pageOf (rowsOf cells))
+  unfolding rowsOf
+  page-laid cells l₅ l₆ count e₅ e₆ =
+      let rows = map (rowIn cells) (upto n) in
+      let m : length rows ≡ n = listed-many (rowIn cells) n in
       let h = headOf n in
       let t = table keyOctets rows in
       let x = behind l l₄ l₅ 0 keysAt h t (rw (head-long n)) (omega arith) head-laid e₅ in
       let y = behind l l₅ l₆ 0 (readingsAt n) (h ++ t) (table countOctets rows)
       (rw (length-append, head-long n, length-table keyOctets 4 key-wide rows, m) (omega arith)) (omega arith) x e₆ in
-      rw m y
+      y ∙ ap (λ k. laid l 0 (headOf k ++ t ++ table countOctets rows)) (sym m) ∙ ap (λ k. laid l 0 (pageOf (map (rowIn cells) (upto k)))) count
 
 -- what is answered, where the rules are kept or not
-module _ (l : Ledger) (b : Bool) (e : b ≡ keepsRules l) where
+module _ (l : List ℕ) (b : Bool) (e : b ≡ keepsRules l) where
   pub store-broken : b ≡ false → storeOf l ≡ no rulesBroken
   unfolding storeOf
   store-broken f = rw (sym e ∙ f)
 
   module _ (t : b ≡ true) where
-    pub store-few : l .count ≤ 256
+    pub store-few : countOf l ≤ 256
     store-few = rules-few l (sym e ∙ t)
 
     pub store-puts : storeOf l ≡ puts (pageOf (rowsOf l))
     unfolding storeOf
     store-puts = rw (sym e ∙ t)
 
-    store-long : length (pageOf (rowsOf l)) ≡ pageLength (l .count)
-    store-long = page-long (rowsOf l) ∙ ap pageLength (rows-many l)
+    module _ (n : ℕ) (q : n ≡ countOf l) where
+      long : length (pageOf (rowsOf l)) ≡ pageLength n
+      long = page-long (rowsOf l) ∙ ap pageLength (rows-many l ∙ sym q)
 
-    pub store-short : (out : List ℕ) → length out < pageLength (l .count)
-        → Says out out (Written.Refused outputTooShort) (within (length out) (storeOf l))
-    store-short out h = says-short out (storeOf l) (pageOf (rowsOf l)) store-puts (rw store-long h)
+      pub store-short : (out : List ℕ) → length out < pageLength n → Says out out (Written.Refused outputTooShort) (within (length out) (storeOf l))
+      store-short out h = says-short out (storeOf l) (pageOf (rowsOf l)) store-puts (rw long h)
 
-    pub store-whole : (out out' : List ℕ) → pageLength (l .count) ≤ length out → out' ≡ laid out 0 (pageOf (rowsOf l))
-        → Says out out' (Written.Octets (pageLength (l .count))) (within (length out) (storeOf l))
-    store-whole out out' h is = says-puts out (storeOf l) (pageOf (rowsOf l)) (pageLength (l .count)) store-puts store-long h out' is
+      pub store-whole : (out out' : List ℕ) → pageLength n ≤ length out → out' ≡ laid out 0 (pageOf (rowsOf l))
+          → Says out out' (Written.Octets (pageLength n)) (within (length out) (storeOf l))
+      store-whole out out' h is = says-puts out (storeOf l) (pageOf (rowsOf l)) (pageLength n) store-puts long h out' is

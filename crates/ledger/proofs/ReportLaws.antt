@@ -2,10 +2,9 @@
 use mathlib.Core.Path.{_≡_, refl, sym, _∙_}
 use mathlib.Core.Bool.{Bool, true, false, _&&_, false≢true}
 use mathlib.Core.List.{List}
-use Prim.Native.Nat.{ℕ, zero, suc, _+_, _*_, _-_, _<_, _≤_}
+use Prim.Native.Nat.{ℕ, zero, suc, _-_, _<_, _≤_}
 use native.Mathlib.Omega.{arith}
 use borrow.Author.Tests.{eqb-true}
-use lib.ListN.{length}
 use Rattle.octets.specs.Numbers.{Octets}
 use Rattle.octets.specs.Refusals.{notStatistics}
 use Rattle.blocks.specs.Statistics.{isStatistics, statisticsOf}
@@ -17,18 +16,20 @@ use Rattle.blocks.specs.declared.cursor.Step.{Step}
 use Rattle.blocks.specs.declared.cursor.Step.the-variants as step
 use Rattle.blocks.specs.declared.statistics.Statistics.{Statistics}
 use Rattle.blocks.specs.declared.walk.Reading.{Reading}
+use Rattle.blocks.proofs.SmallLaws.{source-small}
 use Rattle.blocks.proofs.StepLaws.{not-taken, ofStep, by-step, entries-room}
 use Rattle.blocks.proofs.TakenLaws.{step-narrow}
 use Rattle.rows.specs.Posting.{refused, counts}
 use Rattle.ledger.specs.Reports.{entriesAt, reportIn, stepAt, reportOf}
-use Rattle.ledger.specs.Steps.{Lies}
+use Rattle.ledger.specs.Steps.{InOctets, Lies}
 
 -- What holds of every record that a step hands out
 
 pub lies : (s : List ℕ) (start : ℕ) (t : Record) (c : Cursor) → Octets s → Step.Taken t c ≡ stepOf s start → Lies s t
 lies s start t c o h =
+    let w = source-small s start t c o h in
     let n = step-narrow s start t c o h in
-    record { room = entries-room s start t c o h; sid = n .0; styp = n .1 }
+    record { room = entries-room s start t c o h; sac = w .0; sic = w .1; sid = n .0; styp = n .1 }
 
 -- Record k from a start: a step first, and then record k - 1 from where the step ended
 module _ (s : List ℕ) where
@@ -78,8 +79,8 @@ module _ (s : List ℕ) (t : Record) where
     unfolding reportIn
     report-counts = rw (e, is)
 
-    -- its entries lie in the octets, six to each
-    pub entries-lie : Lies s t → r .at + r .count * 6 ≤ length s
+    -- its entries lie in the octets
+    pub entries-lie : Lies s t → InOctets s (r .at) (r .count)
     entries-lie w = rw is (rw (eqb-true (t .category) 23 (first-holds _ _ _ _ _ e)) at (w .room))
 
 -- The report that octets and a record number are

@@ -1,21 +1,11 @@
--- Rows and columns by place: what holds of rows when it holds at every place, and a column by what it has at its places. Assumes nothing.
-use mathlib.Core.List.{List, [], _∷_, _++_, map, append-assoc, map-append}
-use mathlib.Core.Path.{_≡_, refl, sym, ap, _∙_}
-use Prim.Native.Nat.{ℕ, zero, suc, _+_, _-_, _≤_, _<_}
+-- Rows by place: what holds of rows when it holds at every place. Assumes nothing.
+use mathlib.Core.List.{List, [], _∷_}
+use Prim.Native.Nat.{ℕ, zero, suc, _<_}
 use native.Mathlib.Nat.{le-of-suc-le-suc, not-suc-le-zero}
-use native.Mathlib.Numerals.{one-add}
 use native.Mathlib.Omega.{arith}
-use lib.Dec.{ltb}
-use lib.ListN.{length, getD, drop, set, replicate, length-append, length-map}
-use lib.Seq.{getD-drop, getD-append-add, ext-getD, set-at}
-use borrow.Author.Tests.{ltb-true, ltb-false}
-use Rattle.octets.proofs.Cases.{test}
+use lib.ListN.{length, getD}
 use Rattle.rows.specs.Rows.{Row, newRow}
 use Rattle.rows.specs.Posting.{Above, Sorted, Each}
-use Rattle.ledger.specs.Ledgers.{columns, rowsFrom, column}
-use Rattle.ledger.proofs.ColumnLaws.{rowIn, col-long, col-get}
-
--- Rows
 
 module _ (P : Row → Type 0) where
   -- what holds at every place holds of each row
@@ -48,51 +38,14 @@ sorted-from (r ∷ rows) next = (
   sorted-from rows (λ i l. next (suc i) (omega arith)),
 )
 
--- the rows of columns, with one more
-pub rows-more : (n m : ℕ) (keys lives readings : List ℕ)
-    → rowsFrom (suc n) keys lives readings ≡ rowsFrom n keys lives readings ++ (rowIn (columns m keys lives readings) n ∷ [])
-unfolding rowsFrom
-rows-more zero m keys lives readings = refl
-rows-more (suc n) m keys lives readings =
-    ap (λ t. rowIn (columns m keys lives readings) 0 ∷ t)
-    (rows-more n m (drop 1 keys) (drop 1 lives) (drop 1 readings) ∙ simp (getD-drop, one-add))
+-- rows above a key, and sorted rows, place by place
+above-get : (k : ℕ) (rows : List Row) (j : ℕ) → Above k rows → j < length rows → k < getD rows j (newRow 0) .key
+above-get k [] j a h = absurd (not-suc-le-zero h)
+above-get k (r ∷ rows) zero a h = a .0
+above-get k (r ∷ rows) (suc j) a h = above-get k rows j (a .1) (le-of-suc-le-suc h)
 
--- A column, of any part of a row
-
-zeros : (n i : ℕ) → _≡_ {A = ℕ} (getD (replicate n 0) i 0) 0
-zeros zero i = refl
-zeros (suc n) zero = refl
-zeros (suc n) (suc i) = zeros n i
-
-module _ (f : Row → ℕ) (rows : List Row) where
-  -- past the rows it has zeros
-  pub column-past : (i : ℕ) → length rows ≤ i → getD (column f rows) i 0 ≡ 0
-  column-past i h =
-      let e : i ≡ length (map f rows) + (i - length rows) = rw (length-map rows f) (omega arith) in
-      ap (λ j. getD (column f rows) j 0) e
-      ∙ getD-append-add (map f rows) (replicate (256 - length rows) 0) (i - length rows) 0
-      ∙ zeros (256 - length rows) (i - length rows)
-
-  -- a list is the column if it agrees with the rows at their places and is 0 past them
-  pub column-is : (xs : List ℕ) → length rows ≤ 256 → length xs ≡ 256
-      → ((i : ℕ) → i < length rows → getD xs i 0 ≡ f (getD rows i (newRow 0)))
-      → ((i : ℕ) → length rows ≤ i → i < 256 → getD xs i 0 ≡ 0) → xs ≡ column f rows
-  column-is xs few long at past =
-      ext-getD 0 xs (column f rows) (long ∙ sym (col-long f rows few)) (λ i l. test (ltb i (length rows))
-      (λ t. let m = ltb-true i (length rows) t in at i m ∙ sym (col-get f rows i m))
-      (λ t. let m = ltb-false i (length rows) t in past i m (omega arith) ∙ sym (column-past i m)))
-
-  -- what is below a bound in every row is below it at every place
-  pub column-small : (b : ℕ) → 0 < b → Each (λ r. f r < b) rows → (i : ℕ) → getD (column f rows) i 0 < b
-  column-small b p e i =
-      test (ltb i (length rows))
-      (λ t. let m = ltb-true i (length rows) t in rw (col-get f rows i m) (each-at (λ r. f r < b) rows e i m))
-      (λ t. rw (column-past i (ltb-false i (length rows) t)) p)
-
-  -- one row more
-  pub column-more : (r : Row) (i : ℕ) → length rows ≡ i → i < 256 → set (column f rows) i (f r) ≡ column f (rows ++ (r ∷ []))
-  column-more r i e h =
-      let room : 256 - length rows ≡ suc (256 - suc (length rows)) = omega arith in
-      let long : length (rows ++ (r ∷ [])) ≡ suc (length rows) = rw length-append (omega arith) in
-      rw (room, long, map-append f rows (r ∷ []), append-assoc)
-      (set-at (map f rows) 0 (replicate (256 - suc (length rows)) 0) (f r) i (length-map rows f ∙ e))
+pub sorted-get : (rows : List Row) (i j : ℕ) → Sorted rows → i < j → j < length rows → getD rows i (newRow 0) .key < getD rows j (newRow 0) .key
+sorted-get [] i j s l h = absurd (not-suc-le-zero h)
+sorted-get (r ∷ rows) i zero s l h = absurd (not-suc-le-zero l)
+sorted-get (r ∷ rows) zero (suc j) s l h = above-get (r .key) rows j (s .0) (le-of-suc-le-suc h)
+sorted-get (r ∷ rows) (suc i) (suc j) s l h = sorted-get rows i j (s .1) (le-of-suc-le-suc l) (le-of-suc-le-suc h)

@@ -1,37 +1,36 @@
 -- The rules place by place: what the tests of the code say of a place, and of all places together. Assumes nothing.
 use mathlib.Core.Path.{_≡_, refl, sym, _∙_}
-use mathlib.Core.Bool.{Bool, true, false, and-false, or-true}
+use mathlib.Core.Bool.{Bool, true, false, _&&_, and-false, or-true}
+use mathlib.Core.List.{List}
 use Prim.Native.Nat.{ℕ, zero, suc, _+_, _-_, _≤_, _<_}
 use native.Mathlib.Numerals.{add-one}
 use native.Mathlib.Omega.{arith}
 use lib.Dec.{leb, eqb}
-use lib.ListN.{getD}
 use borrow.Author.Tests.{lt-ltb, le-ltb, leb-true, le-leb, lt-leb, eq-eqb, ne-eqb}
 use Rattle.octets.proofs.Cases.{both}
 use Rattle.rows.proofs.Cases.{compare}
-use Rattle.ledger.specs.Ledgers.{rowKeeps, placeEmpty, placeKeeps, allBelow, keepsRules}
-use Rattle.ledger.specs.declared.Ledger.{Ledger}
+use Rattle.ledger.specs.Ledgers.{rowIn, countOf, rowKeeps, rises, rowEmpty, placeKeeps, allBelow, keepsRules}
 
 -- One place
 
-module _ (l : Ledger) (i : ℕ) where
+module _ (cells : List ℕ) (i : ℕ) where
   -- past the row count a place is to be empty, else a row
-  pub place-past : l .count ≤ i → placeEmpty l i ≡ placeKeeps l i
-  place-past h = rw (le-ltb i (l .count) h)
+  pub place-past : countOf cells ≤ i → rowEmpty (rowIn cells i) ≡ placeKeeps cells i
+  place-past h = rw (le-ltb i (countOf cells) h)
 
-  pub place-row : i < l .count → rowKeeps l i ≡ placeKeeps l i
-  place-row h = rw (lt-ltb i (l .count) h)
+  pub place-row : i < countOf cells → (rises cells i && rowKeeps (rowIn cells i)) ≡ placeKeeps cells i
+  place-row h = rw (lt-ltb i (countOf cells) h)
 
   -- a key that is not above the one before it
-  pub row-falls : 0 < i → getD (l .keys) i 0 ≤ getD (l .keys) (i - 1) 0 → false ≡ rowKeeps l i
-  row-falls p h = rw (ne-eqb i 0 (λ e. omega arith), le-ltb (getD (l .keys) (i - 1) 0) (getD (l .keys) i 0) h)
+  pub row-falls : 0 < i → rowIn cells i .key ≤ rowIn cells (i - 1) .key → false ≡ rises cells i
+  row-falls p h = rw (ne-eqb i 0 (λ e. omega arith), le-ltb (rowIn cells (i - 1) .key) (rowIn cells i .key) h)
 
   -- the first key, and one that is above the one before it
-  pub row-first : i ≡ 0 → leb (getD (l .readings) i 0) (getD (l .lives) i 0) ≡ rowKeeps l i
+  pub row-first : i ≡ 0 → rises cells i ≡ true
   row-first e = rw (eq-eqb i 0 e)
 
-  pub row-rises : getD (l .keys) (i - 1) 0 < getD (l .keys) i 0 → leb (getD (l .readings) i 0) (getD (l .lives) i 0) ≡ rowKeeps l i
-  row-rises h = rw (lt-ltb (getD (l .keys) (i - 1) 0) (getD (l .keys) i 0) h, or-true (eqb i 0))
+  pub row-rises : rowIn cells (i - 1) .key < rowIn cells i .key → rises cells i ≡ true
+  row-rises h = rw (lt-ltb (rowIn cells (i - 1) .key) (rowIn cells i .key) h, or-true (eqb i 0))
 
 -- All places below a number
 
@@ -60,27 +59,27 @@ module _ (p : ℕ → Bool) where
 
 -- The whole ledger
 
-module _ (l : Ledger) where
+module _ (cells : List ℕ) where
   -- too many rows
-  pub rules-many : 256 < l .count → false ≡ keepsRules l
+  pub rules-many : 256 < countOf cells → false ≡ keepsRules cells
   unfolding keepsRules
-  rules-many h = rw (lt-leb (l .count) 256 h)
+  rules-many h = rw (lt-leb (countOf cells) 256 h)
 
   -- a place that does not keep them
-  pub rules-fail : l .count ≤ 256 → (i : ℕ) → i < 256 → (b : Bool) → b ≡ placeKeeps l i → b ≡ false → false ≡ keepsRules l
+  pub rules-fail : countOf cells ≤ 256 → (i : ℕ) → i < 256 → (b : Bool) → b ≡ placeKeeps cells i → b ≡ false → false ≡ keepsRules cells
   unfolding keepsRules
-  rules-fail h i m b e f = rw (le-leb (l .count) 256 h, all-fails (placeKeeps l) 256 i m (sym e ∙ f))
+  rules-fail h i m b e f = rw (le-leb (countOf cells) 256 h, all-fails (placeKeeps cells) 256 i m (sym e ∙ f))
 
   -- every place keeps them
-  pub rules-hold : l .count ≤ 256 → allBelow 256 (placeKeeps l) ≡ true → true ≡ keepsRules l
+  pub rules-hold : countOf cells ≤ 256 → allBelow 256 (placeKeeps cells) ≡ true → true ≡ keepsRules cells
   unfolding keepsRules
-  rules-hold h e = rw (le-leb (l .count) 256 h, e)
+  rules-hold h e = rw (le-leb (countOf cells) 256 h, e)
 
   -- where the ledger keeps them, there are no more than 256 rows, and every place keeps them
-  pub rules-few : keepsRules l ≡ true → l .count ≤ 256
+  pub rules-few : keepsRules cells ≡ true → countOf cells ≤ 256
   unfolding keepsRules
-  rules-few h = leb-true (l .count) 256 (both (leb (l .count) 256) (allBelow 256 (placeKeeps l)) h .0)
+  rules-few h = leb-true (countOf cells) 256 (both (leb (countOf cells) 256) (allBelow 256 (placeKeeps cells)) h .0)
 
-  pub rules-all : keepsRules l ≡ true → (i : ℕ) → i < 256 → placeKeeps l i ≡ true
+  pub rules-all : keepsRules cells ≡ true → (i : ℕ) → i < 256 → placeKeeps cells i ≡ true
   unfolding keepsRules
-  rules-all h = all-held (placeKeeps l) 256 (both (leb (l .count) 256) (allBelow 256 (placeKeeps l)) h .1)
+  rules-all h = all-held (placeKeeps cells) 256 (both (leb (countOf cells) 256) (allBelow 256 (placeKeeps cells)) h .1)

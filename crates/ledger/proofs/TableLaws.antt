@@ -1,47 +1,50 @@
--- Tables: the octets of rows, one row after the other, for any octets of a row of one length; and the numbers in them. Assumes nothing.
+-- Tables: the numbers of rows, one row after the other, for any numbers of a row of one length; and rows that are listed by place.
+-- Assumes nothing.
 use mathlib.Core.Path.{_≡_, refl, sym, ap, _∙_}
-use mathlib.Core.List.{List, [], _∷_, _++_, append-assoc, append-nil}
-use Prim.Native.Nat.{ℕ, zero, suc, _+_, _*_, _≤_, _<_, _^_}
+use mathlib.Core.List.{List, [], _∷_, _++_, map, map-append, append-assoc, append-nil}
+use Prim.Native.Nat.{ℕ, zero, suc, _+_, _*_, _≤_, _<_}
 use native.Mathlib.Nat.{le-of-suc-le-suc, not-suc-le-zero}
 use native.Mathlib.Omega.{arith}
-use lib.ListN.{length, getD, take, drop, length-append}
+use lib.ListN.{length, getD, take, drop, replicate, length-append, length-map}
 use lib.Seq.{take-add, drop-drop}
-use Rattle.octets.specs.Numbers.{number, octets, laid}
-use Rattle.octets.proofs.Numbers.{number-octets}
+use Rattle.octets.specs.Numbers.{laid}
 use Rattle.octets.proofs.Laying.{laid-laid}
 use Rattle.rows.specs.Rows.{Row, newRow}
+use Rattle.rows.specs.Order.{upto}
 use Rattle.rows.specs.Posting.{Each}
-use Rattle.ledger.specs.Pages.{table, rowAt, rowsAt}
-
--- A number of any width that lies behind p, read
-pub number-in : (k v : ℕ) (p q s : List ℕ) (o : ℕ) → v < 256 ^ k → length p ≡ o → s ≡ p ++ (octets k v ++ q) → number k s o ≡ v
-number-in k v p q s o h e is = rw (is, ← e) (number-octets k v p q h)
+use Rattle.ledger.specs.Ledgers.{table}
 
 -- two parts of a list, one behind the other
 pub parts : (s : List ℕ) (o a b : ℕ) → take a (drop o s) ++ take b (drop (o + a) s) ≡ take (a + b) (drop o s)
 parts s o a b = sym (take-add a b (drop o s) ∙ ap (λ t. take a (drop o s) ++ take b t) (drop-drop a o s))
 
--- The rows of a page
+-- a list of one value has it everywhere, past its end too
+pub get-same : {A : Type 0} (a : A) (n u : ℕ) → getD (replicate n a) u a ≡ a
+get-same a zero u = refl
+get-same a (suc n) zero = refl
+get-same a (suc n) (suc u) = get-same a n u
 
-module _ (s : List ℕ) (n : ℕ) where
-  pub length-rows : (m i : ℕ) → length (rowsAt s n m i) ≡ m
-  unfolding rowsAt
-  length-rows zero i = refl
-  length-rows (suc m) i = ap suc (length-rows m (suc i))
+-- Rows listed by place
 
-  pub row-in : (m i j : ℕ) → j < m → getD (rowsAt s n m i) j (newRow 0) ≡ rowAt s n (i + j)
-  unfolding rowsAt
-  row-in zero i j l = absurd (not-suc-le-zero l)
-  row-in (suc m) i zero l = let e : i + 0 ≡ i = omega arith in rw e
-  row-in (suc m) i (suc j) l = let e : suc i + j ≡ i + suc j = omega arith in rw (← e) (row-in m (suc i) j (le-of-suc-le-suc l))
+length-upto : (n : ℕ) → length (upto n) ≡ n
+unfolding upto
+length-upto zero = refl
+length-upto (suc n) = ap suc (length-map (upto n) suc ∙ length-upto n)
 
-  -- one row more
-  pub page-more : (m i : ℕ) → rowsAt s n (suc m) i ≡ rowsAt s n m i ++ (rowAt s n (i + m) ∷ [])
-  unfolding rowsAt
-  page-more zero i = let e : i + 0 ≡ i = omega arith in rw e
-  page-more (suc m) i = let e : suc i + m ≡ i + suc m = omega arith in rw (← e) (ap (λ t. rowAt s n i ∷ t) (page-more m (suc i)))
+upto-more : (n : ℕ) → upto (suc n) ≡ upto n ++ (n ∷ [])
+unfolding upto
+upto-more zero = refl
+upto-more (suc n) = ap (λ l. 0 ∷ map suc l) (upto-more n) ∙ ap (λ l. 0 ∷ l) (map-append suc (upto n) (n ∷ []))
 
--- The octets of a row, k of them
+module _ {A : Type 0} (at : ℕ → A) where
+  pub listed-many : (n : ℕ) → length (map at (upto n)) ≡ n
+  listed-many n = length-map (upto n) at ∙ length-upto n
+
+  -- one more
+  pub listed-more : (n : ℕ) → map at (upto (suc n)) ≡ map at (upto n) ++ (at n ∷ [])
+  listed-more n = ap (map at) (upto-more n) ∙ map-append at (upto n) (n ∷ [])
+
+-- The numbers of a row, k of them
 
 module _ (f : Row → List ℕ) (k : ℕ) (wide : (r : Row) → length (f r) ≡ k) where
   pub length-table : (rows : List Row) → length (table f rows) ≡ k * length rows
@@ -61,7 +64,7 @@ module _ (f : Row → List ℕ) (k : ℕ) (wide : (r : Row) → length (f r) ≡
       let n = length-table rows in
       rw (← n, table-more rows r) (laid-laid l o (table f rows) (f r) (omega arith))
 
-  -- What is got from the octets of a row wherever they lie is got from the table
+  -- What is got from the numbers of a row wherever they lie is got from the table
 
   module _ (P : Row → Type 0) (get : List ℕ → ℕ → ℕ) (part : Row → ℕ)
       (gets : (r : Row) → P r → (p q : List ℕ) → get (p ++ (f r ++ q)) (length p) ≡ part r) where
@@ -83,12 +86,13 @@ module _ (f : Row → List ℕ) (k : ℕ) (wide : (r : Row) → length (f r) ≡
 
   -- Rows that were read from octets have those octets
 
-  module _ (s : List ℕ) (n o : ℕ) (puts : (i : ℕ) → i < n → f (rowAt s n i) ≡ take k (drop (o + k * i) s)) where
-    pub table-put : (m i : ℕ) → i + m ≤ n → table f (rowsAt s n m i) ≡ take (k * m) (drop (o + k * i) s)
-    unfolding table rowsAt
-    table-put zero i h = let e : k * 0 ≡ 0 = omega arith in rw e
-    table-put (suc m) i h =
-        let e : o + k * suc i ≡ o + k * i + k = omega arith in
-        let d : k + k * m ≡ k * suc m = omega arith in
-        let ih = table-put m (suc i) (omega arith) in
-        rw (puts i (omega arith), ih, e, ← d) (parts s (o + k * i) k (k * m))
+  none-put : (at : ℕ → Row) → table f (map at (upto 0)) ≡ []
+  unfolding table upto
+  none-put at = refl
+
+  module _ (s : List ℕ) (at : ℕ → Row) (n o : ℕ) (puts : (i : ℕ) → i < n → f (at i) ≡ take k (drop (o + k * i) s)) where
+    pub table-put : (m : ℕ) → m ≤ n → table f (map at (upto m)) ≡ take (k * m) (drop o s)
+    table-put zero h = let e : k * 0 ≡ 0 = omega arith in rw e (none-put at)
+    table-put (suc m) h =
+        let d : k * m + k ≡ k * suc m = omega arith in
+        rw (listed-more at m, table-more (map at (upto m)) (at m), table-put m (omega arith), puts m (omega arith), ← d) (parts s o (k * m) k)

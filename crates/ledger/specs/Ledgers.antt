@@ -1,67 +1,101 @@
--- A ledger: its rows, the ledger of a list of rows, and the ledger's rules (01 "Ledger").
+-- A ledger: its numbers in their places, its rows, the ledger of a list of rows, and the ledger's rules (01 "Ledger").
 use mathlib.Core.Bool.{Bool, true, _&&_, _||_}
 use mathlib.Core.List.{List, [], _∷_, _++_, map}
 use mathlib.Core.Path.{_≡_}
-use Prim.Native.Nat.{ℕ, zero, suc, _-_, _<_, _^_}
+use Prim.Native.Nat.{ℕ, zero, suc, _+_, _*_, _-_, _<_, _^_}
 use lib.Dec.{leb, ltb, eqb}
-use lib.ListN.{length, getD, drop, replicate}
+use lib.ListN.{length, getD, replicate}
+use lib.Seq.{sets}
 use Rattle.octets.specs.Choice.{pick}
 use Rattle.octets.specs.Refusals.{rulesBroken}
-use Rattle.rows.specs.Rows.{Row}
-use Rattle.ledger.specs.declared.Ledger.{Ledger}
+use Rattle.rows.specs.Rows.{Row, newRow}
+use Rattle.rows.specs.Order.{upto}
 use Rattle.ledger.specs.declared.Answer.{Answer}
+use Rattle.ledger.specs.declared.cells.Row.{Row as Given}
 
-abbrev pub columns : ℕ → List ℕ → List ℕ → List ℕ → Ledger
-columns n keys lives readings = record { count = n; keys = keys; lives = lives; readings = readings }
+-- The cells: first the ledger's own numbers, of which the row count is the first; then 256 places of a row's numbers
 
-abbrev pub answer : ℕ → Ledger → Answer
-answer n l = record { number = n; ledger = l }
+abbrev pub head : ℕ
+head = 1
+
+abbrev pub wide : ℕ
+wide = 3
+
+abbrev pub cellCount : ℕ
+cellCount = head + wide * 256
+
+abbrev pub rowCells : Row → List ℕ
+rowCells r = r .key ∷ r .life ∷ r .reading ∷ []
+
+abbrev pub placeAt : ℕ → ℕ
+placeAt i = head + wide * i
+
+abbrev pub rowIn : List ℕ → ℕ → Row
+rowIn cells i = record {
+  key = getD cells (placeAt i + 0) 0;
+  life = getD cells (placeAt i + 1) 0;
+  reading = getD cells (placeAt i + 2) 0;
+}
 
 -- the rows: of the first places, as many as the row count says
-unfoldable pub rowsFrom : ℕ → List ℕ → List ℕ → List ℕ → List Row
-rowsFrom zero keys lives readings = []
-rowsFrom (suc n) keys lives readings =
-    record { key = getD keys 0 0; life = getD lives 0 0; reading = getD readings 0 0 } ∷ rowsFrom n (drop 1 keys) (drop 1 lives) (drop 1 readings)
+abbrev pub countOf : List ℕ → ℕ
+countOf cells = getD cells 0 0
 
-abbrev pub rowsOf : Ledger → List Row
-rowsOf l = rowsFrom (l .count) (l .keys) (l .lives) (l .readings)
+unfoldable pub rowsOf : List ℕ → List Row
+rowsOf cells = map (rowIn cells) (upto (countOf cells))
+
+-- a table: the numbers of each row in turn
+unfoldable pub table : (Row → List ℕ) → List Row → List ℕ
+table f [] = []
+table f (r ∷ rows) = f r ++ table f rows
 
 -- the ledger of rows: places past the row count are all zero
-abbrev pub column : (Row → ℕ) → List Row → List ℕ
-column f rows = map f rows ++ replicate (256 - length rows) 0
+unfoldable pub cellsOf : List Row → List ℕ
+cellsOf rows = length rows ∷ table rowCells (rows ++ replicate (256 - length rows) (newRow 0))
 
-unfoldable pub ledgerOf : List Row → Ledger
-ledgerOf rows = columns (length rows) (column (λ r. r .key) rows) (column (λ r. r .life) rows) (column (λ r. r .reading) rows)
+-- a ledger whose rows are changed, and one with a row put into a place
+abbrev pub changed : (List Row → List Row) → List ℕ → List ℕ
+changed f cells = cellsOf (f (rowsOf cells))
+
+abbrev pub putRow : List ℕ → ℕ → Row → List ℕ
+putRow cells i r = sets cells (placeAt i) (rowCells r)
+
+-- a row that is handed on, and a number with the ledger that goes with it
+abbrev pub asRow : Given → Row
+asRow r = record { key = r .key; life = r .life; reading = r .reading }
+
+abbrev pub answer : ℕ → List ℕ → Answer
+answer n cells = record { number = n; ledger = record { cells = cells } }
 
 -- The rules, place by place
 
--- a row's key is above the one before it, and its reading does not exceed the life count
-abbrev pub rowKeeps : Ledger → ℕ → Bool
-rowKeeps l i = (eqb i 0 || ltb (getD (l .keys) (i - 1) 0) (getD (l .keys) i 0)) && leb (getD (l .readings) i 0) (getD (l .lives) i 0)
+-- a row's key and reading have 32 bits, and the reading does not exceed the life count
+abbrev pub rowKeeps : Row → Bool
+rowKeeps r = ltb (r .key) (2 ^ 32) && leb (r .reading) (r .life) && ltb (r .reading) (2 ^ 32)
+
+-- its key is above the one before it
+abbrev pub rises : List ℕ → ℕ → Bool
+rises cells i = eqb i 0 || ltb (rowIn cells (i - 1) .key) (rowIn cells i .key)
 
 -- a place past the row count is all zero
-abbrev pub placeEmpty : Ledger → ℕ → Bool
-placeEmpty l i = eqb (getD (l .keys) i 0) 0 && eqb (getD (l .lives) i 0) 0 && eqb (getD (l .readings) i 0) 0
+abbrev pub rowEmpty : Row → Bool
+rowEmpty r = eqb (r .key) 0 && eqb (r .life) 0 && eqb (r .reading) 0
 
-abbrev pub placeKeeps : Ledger → ℕ → Bool
-placeKeeps l i = pick (ltb i (l .count)) (rowKeeps l i) (placeEmpty l i)
+abbrev pub placeKeeps : List ℕ → ℕ → Bool
+placeKeeps cells i = pick (ltb i (countOf cells)) (rises cells i && rowKeeps (rowIn cells i)) (rowEmpty (rowIn cells i))
 
 unfoldable pub allBelow : ℕ → (ℕ → Bool) → Bool
 allBelow zero p = true
 allBelow (suc n) p = allBelow n p && p n
 
 -- a row count of 256 at most, and each of the 256 places
-unfoldable pub keepsRules : Ledger → Bool
-keepsRules l = leb (l .count) 256 && allBelow 256 (placeKeeps l)
+unfoldable pub keepsRules : List ℕ → Bool
+keepsRules cells = leb (countOf cells) 256 && allBelow 256 (placeKeeps cells)
 
-abbrev pub rulesRefusal : Ledger → ℕ
-rulesRefusal l = pick (keepsRules l) 0 rulesBroken
+abbrev pub rulesRefusal : List ℕ → ℕ
+rulesRefusal cells = pick (keepsRules cells) 0 rulesBroken
 
--- what the types say of every ledger: columns of 256 places, of 32, 64 and 32 bits
-pub record Held (l : Ledger) : Type 0 where
-  pub keys-long : length (l .keys) ≡ 256
-  pub lives-long : length (l .lives) ≡ 256
-  pub readings-long : length (l .readings) ≡ 256
-  pub keys-small : (i : ℕ) → getD (l .keys) i 0 < 2 ^ 32
-  pub lives-small : (i : ℕ) → getD (l .lives) i 0 < 2 ^ 64
-  pub readings-small : (i : ℕ) → getD (l .readings) i 0 < 2 ^ 32
+-- what the type says of every ledger: 769 cells, of 64 bits
+pub record Held (cells : List ℕ) : Type 0 where
+  pub long : length cells ≡ cellCount
+  pub small : (i : ℕ) → getD cells i 0 < 2 ^ 64

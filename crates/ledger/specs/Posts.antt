@@ -4,19 +4,15 @@ use Prim.Native.Nat.{ℕ}
 use Rattle.octets.specs.Choice.{pick}
 use Rattle.octets.specs.Refusals.{rulesBroken}
 use Rattle.rows.specs.Rows.{addUp}
-use Rattle.rows.specs.Posting.{Report, Posted, postRows}
-use Rattle.ledger.specs.Ledgers.{answer, rowsOf, ledgerOf, keepsRules}
+use Rattle.rows.specs.Posting.{Report, postRows}
+use Rattle.ledger.specs.Ledgers.{answer, rowsOf, changed, keepsRules}
 use Rattle.ledger.specs.Reports.{reportOf}
 use Rattle.ledger.specs.declared.Answer.{Answer}
-use Rattle.ledger.specs.declared.Ledger.{Ledger}
-
-abbrev pub answerOf : Posted → Answer
-answerOf p = answer (p .number) (ledgerOf (p .rows))
 
 -- a report posted to a ledger that keeps the rules
-abbrev pub postedTo : Ledger → Report → Answer
-postedTo l x = answerOf (postRows addUp (rowsOf l) x)
+abbrev pub postedTo : List ℕ → Report → Answer
+postedTo cells x = answer (postRows addUp (rowsOf cells) x .number) (changed (λ rows. postRows addUp rows x .rows) cells)
 
 -- octets and a record number, posted to any ledger
-unfoldable pub postOf : Ledger → List ℕ → ℕ → Answer
-postOf l s k = pick (keepsRules l) (postedTo l (reportOf s k)) (answer rulesBroken l)
+unfoldable pub postOf : List ℕ → List ℕ → ℕ → Answer
+postOf cells s k = pick (keepsRules cells) (postedTo cells (reportOf s k)) (answer rulesBroken cells)

@@ -1,72 +1,60 @@
--- What the functions inside the crate give each other: the place of a key, a column with one more, what is held of a key.
-use mathlib.Core.List.{List, [], _∷_}
-use mathlib.Core.Option.{Option, none, some}
+-- What the functions inside the crate give each other: a ledger that keeps the rules, the place of a key, entries whose rows are known.
+use mathlib.Core.List.{List}
 use mathlib.Core.Path.{_≡_}
-use Prim.Native.Nat.{ℕ, zero, suc, _+_, _*_, _≤_, _<_, _^_}
+use Prim.Native.Nat.{ℕ, _+_, _*_, _≤_, _<_, _^_}
 use lib.ListN.{length, getD}
 use Rattle.blocks.specs.Statistics.{entryOf}
 use Rattle.blocks.specs.Steps.{entryGroupOf}
 use Rattle.blocks.specs.declared.record.Record.{Record}
 use Rattle.rows.specs.Rows.{Row, Entry}
-use Rattle.rows.specs.Posting.{Good}
-use Rattle.ledger.specs.Ledgers.{rowsOf, ledgerOf}
-use Rattle.ledger.specs.declared.Ledger.{Ledger}
-use Rattle.ledger.specs.declared.columns.Row.{Row as HeldRow}
-
--- a ledger that keeps the rules, as its rows do
-pub record Kept (l : Ledger) : Type 0 where
-  pub few : l .count ≤ 256
-  pub rest : l ≡ ledgerOf (rowsOf l)
-  pub good : Good (rowsOf l)
-
--- what holds of every record that a step hands out: its entries lie in the octets, and SID and STYP have four bits
-pub record Lies (s : List ℕ) (t : Record) : Type 0 where
-  pub room : t .entries .at + t .entries .count * entryGroupOf (t .category) .wide ≤ length s
-  pub sid : t .service .sid < 16
-  pub styp : t .service .styp < 16
-
--- the first n keys rise; and the first of these places whose key is at least k, or n
-abbrev pub Rising : List ℕ → ℕ → Type 0
-Rising keys n = (i j : ℕ) → i < j → j < n → getD keys i 0 < getD keys j 0
-
-pub record Found (keys : List ℕ) (n k r : ℕ) : Type 0 where
-  pub within : r ≤ n
-  pub below : (j : ℕ) → j < r → getD keys j 0 < k
-  pub above : r < n → k ≤ getD keys r 0
-
--- a key has a row at a place, and no report brings its life count to the end
-pub record KnownRow (count : ℕ) (keys lives : List ℕ) (k r : ℕ) : Type 0 where
-  pub inside : r < count
-  pub same : getD keys r 0 ≡ k
-  pub far : getD lives r 0 + 2 ^ 40 ≤ 2 ^ 64
-
--- each of n entries has a key with such a row, whose place stands by TYPE
-pub record Known (count : ℕ) (keys lives s : List ℕ) (first at n : ℕ) (places : List ℕ) : Type 0 where
-  pub few : n < 256
-  pub long : length places ≡ 256
-  pub rows : (i : ℕ) → i < n → KnownRow count keys lives (first + entryOf s at i .typ) (getD places (entryOf s at i .typ) 0)
-  pub small : (i : ℕ) → i < n → entryOf s at i .count < 2 ^ 32
-
--- a list with one more at a place, and with one less
-unfoldable pub insertAt : ℕ → ℕ → List ℕ → List ℕ
-insertAt zero x ys = x ∷ ys
-insertAt (suc i) x [] = x ∷ []
-insertAt (suc i) x (y ∷ ys) = y ∷ insertAt i x ys
-
-unfoldable pub removeAt : ℕ → List ℕ → List ℕ
-removeAt i [] = []
-removeAt zero (y ∷ ys) = ys
-removeAt (suc i) (y ∷ ys) = y ∷ removeAt i ys
-
--- x stands at a place, and what stood from there up to place n is one place further
-abbrev pub opened : ℕ → ℕ → ℕ → List ℕ → List ℕ
-opened n at x ys = removeAt (n + 1) (insertAt at x ys)
-
--- what a ledger has of a key: its row, or a new one
-abbrev pub heldOf : Option Row → HeldRow
-heldOf none = record { new = 1; life = 0; reading = 0 }
-heldOf (some r) = record { new = 0; life = r .life; reading = r .reading }
+use Rattle.rows.specs.Posting.{Each, Good}
+use Rattle.ledger.specs.Ledgers.{rowIn, countOf, rowsOf, cellsOf}
 
 -- an entry of its parts
 abbrev pub entry : ℕ → ℕ → ℕ → ℕ → Entry
 entry key time reference count = record { key = key; time = time; reference = reference; count = count }
+
+-- a row's key and reading have 32 bits
+abbrev pub Narrow : Row → Type 0
+Narrow r = (r .key < 2 ^ 32) × (r .reading < 2 ^ 32)
+
+-- rows that keep the rules, these widths with the others
+abbrev pub Ruled : List Row → Type 0
+Ruled rows = Good rows × Each Narrow rows
+
+-- a ledger that keeps the rules: its cells are those of its rows, and these keep them
+pub record Kept (cells : List ℕ) : Type 0 where
+  pub few : countOf cells ≤ 256
+  pub rest : cells ≡ cellsOf (rowsOf cells)
+  pub good : Good (rowsOf cells)
+  pub narrow : Each Narrow (rowsOf cells)
+
+-- n entries of 23/120 lie in the octets from an offset
+abbrev pub InOctets : List ℕ → ℕ → ℕ → Type 0
+InOctets s at n = at + n * entryGroupOf 23 .wide ≤ length s
+
+-- what holds of every record that a step hands out: its entries lie in the octets, SAC and SIC are octets, and SID and STYP have four bits
+pub record Lies (s : List ℕ) (t : Record) : Type 0 where
+  pub room : t .entries .at + t .entries .count * entryGroupOf (t .category) .wide ≤ length s
+  pub sac : t .source .sac < 256
+  pub sic : t .source .sic < 256
+  pub sid : t .service .sid < 16
+  pub styp : t .service .styp < 16
+
+-- the place of a key among the rows: every key before it is smaller, and the one there, if there is one, is not
+pub record Found (cells : List ℕ) (k i : ℕ) : Type 0 where
+  pub within : i ≤ countOf cells
+  pub below : (j : ℕ) → j < i → rowIn cells j .key < k
+  pub above : i < countOf cells → k ≤ rowIn cells i .key
+
+-- a key has its row at a place
+pub record RowAt (cells : List ℕ) (k i : ℕ) : Type 0 where
+  pub inside : i < countOf cells
+  pub same : rowIn cells i .key ≡ k
+
+-- each of n entries has a key with a row, whose place stands by TYPE, and no report brings its life count to the end
+pub record Known (cells s : List ℕ) (first at n : ℕ) (places : List ℕ) : Type 0 where
+  pub few : n < 256
+  pub long : length places ≡ 256
+  pub rows : (i : ℕ) → i < n → RowAt cells (first + entryOf s at i .typ) (getD places (entryOf s at i .typ) 0)
+  pub far : (i : ℕ) → i < n → rowIn cells (getD places (entryOf s at i .typ) 0) .life + 2 ^ 40 ≤ 2 ^ 64

@@ -7,7 +7,7 @@ use crate::post::post;
 
 // A record of a block posted to a ledger that is lent: the number that `post` answers, and behind the reference the ledger that it gives.
 pub fn post_lent(ledger: &mut Ledger, s: &[u8], k: usize) -> u8
-    ensures { λ r. ⌜ answer r (now (ledger .exit)) ≡ postOf (now (ledger .entry)) (now (s .entry)) k ⌝ }
+    ensures { λ r. ⌜ answer r (now (ledger .exit) .cells) ≡ postOf (now (ledger .entry) .cells) (now (s .entry)) k ⌝ }
 {
     let answer = post(*ledger, s, k);
     *ledger = answer.ledger;

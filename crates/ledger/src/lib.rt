@@ -1,21 +1,21 @@
 // The ledger: rows of counters, posting, pages.
 ghost use mathlib.Core.Path.{_≡_};
 ghost use mathlib.Core.List.{[]};
-ghost use Rattle.ledger.specs.Ledgers.{ledgerOf};
+ghost use Rattle.ledger.specs.Ledgers.{cellsOf};
 
-pub mod columns;
+pub mod cells;
 pub mod lent;
 pub mod page;
+pub mod places;
 pub mod post;
 pub mod rules;
 pub mod sums;
 
-// The rows by columns, rising by key; places past the row count are all zero. A key is SAC, SIC, the octet of 015 and TYPE.
+use crate::cells::CELLS;
+
+// The row count, then the rows, rising by key; places past the row count are all zero.
 pub struct Ledger {
-    pub count: usize,
-    pub keys: [u32; 256],
-    pub lives: [u64; 256],
-    pub readings: [u32; 256],
+    pub cells: [u64; CELLS],
 }
 
 // A number, and the ledger that goes with it.
@@ -26,12 +26,7 @@ pub struct Answer {
 
 // A ledger without rows.
 pub fn fresh() -> Ledger
-    ensures { λ r. ⌜ r ≡ ledgerOf [] ⌝ }
+    ensures { λ r. ⌜ r .cells ≡ cellsOf [] ⌝ }
 {
-    Ledger {
-        count: 0,
-        keys: [0; 256],
-        lives: [0; 256],
-        readings: [0; 256],
-    }
+    Ledger { cells: [0; CELLS] }
 }

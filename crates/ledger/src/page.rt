@@ -1,16 +1,23 @@
 // The ledger as a page.
 ghost use mathlib.Core.Path.{_≡_};
-ghost use mathlib.Core.Bool.{true, false};
+ghost use mathlib.Core.Bool.{false};
 ghost use mathlib.Core.List.{[]};
-ghost use Prim.Native.Nat.{_+_, _*_, _≤_};
+ghost use Prim.Native.Nat.{_≤_};
 ghost use lib.ListN.{length};
 ghost use Rattle.octets.specs.Numbers.{laid};
 ghost use Rattle.octets.specs.Outcomes.{within, answerOf, outputOf, listedWritten, outcomeListed};
 ghost use Rattle.octets.specs.Refusals.{rulesBroken};
-ghost use Rattle.ledger.specs.Ledgers.{columns, answer, rowsOf, ledgerOf};
+ghost use Rattle.ledger.specs.Ledgers.{countOf, rowsOf, cellsOf, answer};
 ghost use Rattle.ledger.specs.Pages.{headKeeps, pageLength, pageOf, loadOf, storeOf};
+ghost use Rattle.ledger.specs.Steps.{Kept};
 use crate::Answer;
 use crate::Ledger;
+use crate::cells::CELLS;
+use crate::cells::COUNT;
+use crate::cells::Row;
+use crate::cells::count_of;
+use crate::cells::put_row;
+use crate::cells::row_at;
 use crate::fresh;
 use crate::rules::is_kept;
 use octets::output::Written;
@@ -39,7 +46,7 @@ fn is_headed(page: &[u8]) -> bool
 }
 
 fn broken() -> Answer
-    ensures { λ r. ⌜ r ≡ answer rulesBroken (ledgerOf []) ⌝ }
+    ensures { λ r. ⌜ r ≡ answer rulesBroken (cellsOf []) ⌝ }
 {
     let ledger = fresh();
     Answer {
@@ -56,72 +63,69 @@ pub fn load(page: &[u8]) -> Answer
         return broken();
     }
     let n = read2(page, 0) as usize;
-    let mut keys = [0u32; 256];
-    let mut lives = [0u64; 256];
-    let mut readings = [0u32; 256];
+    let mut cells = [0u64; CELLS];
+    cells[COUNT] = n as u64;
     let mut i: usize = 0;
     while i < n {
         let at = 8 + 4 * n + 12 * i;
-        keys[i] = read4(page, 8 + 4 * i);
-        lives[i] = read8(page, at);
-        readings[i] = read4(page, at + 8);
+        let row = Row {
+            key: read4(page, 8 + 4 * i) as u64,
+            life: read8(page, at),
+            reading: read4(page, at + 8) as u64,
+        };
+        put_row(&mut cells, i, row);
         i += 1;
     }
-    if !is_kept(n, &keys, &lives, &readings) {
+    if !is_kept(&cells) {
         return broken();
     }
-    let ledger = Ledger {
-        count: n,
-        keys: keys,
-        lives: lives,
-        readings: readings,
-    };
+    let ledger = Ledger { cells: cells };
     Answer {
         number: refusal::ACCEPTED,
         ledger: ledger,
     }
 }
 
-// Writes the page of n rows.
-fn put_page(out: &mut [u8], n: usize, keys: &[u32; 256], lives: &[u64; 256], readings: &[u32; 256])
-    requires { ⌜ (n ≤ 256) × (pageLength n ≤ length (now out)) ⌝ }
-    ensures { λ _. ⌜ now (out .exit) ≡ laid (now (out .entry)) 0 (pageOf (rowsOf (columns n (now (keys .entry)) (now (lives .entry)) (now (readings .entry))))) ⌝ }
+// Writes the page of a ledger that keeps the rules.
+fn put_page(out: &mut [u8], cells: &[u64; CELLS])
+    requires { ⌜ Kept (now cells) × (pageLength (countOf (now cells)) ≤ length (now out)) ⌝ }
+    ensures { λ _. ⌜ now (out .exit) ≡ laid (now (out .entry)) 0 (pageOf (rowsOf (now (cells .entry)))) ⌝ }
 {
+    let n = count_of(cells);
     write2(out, 0, n as u16);
     write2(out, 2, 8);
     write2(out, 4, (8 + 4 * n) as u16);
     write2(out, 6, (8 + 16 * n) as u16);
     let mut i: usize = 0;
     while i < n {
-        write4(out, 8 + 4 * i, keys[i]);
+        let row = row_at(cells, i);
+        write4(out, 8 + 4 * i, row.key as u32);
         i += 1;
     }
     let mut j: usize = 0;
     while j < n {
         let at = 8 + 4 * n + 12 * j;
-        write8(out, at, lives[j]);
-        write4(out, at + 8, readings[j]);
+        let row = row_at(cells, j);
+        write8(out, at, row.life);
+        write4(out, at + 8, row.reading as u32);
         j += 1;
     }
 }
 
 // Stores the ledger as a page: 16, then 12; octets past the page stay.
 pub fn store(ledger: Ledger, out: &mut [u8]) -> Written
-    ensures { λ r. ⌜ (now (out .exit) ≡ outputOf (now (out .entry)) (within (length (now (out .entry))) (storeOf ledger)))
-        × (r ≡ answerOf (within (length (now (out .entry))) (storeOf ledger)))
-        × (listedWritten r ≡ outcomeListed (within (length (now (out .entry))) (storeOf ledger))) ⌝ }
+    ensures { λ r. ⌜ (now (out .exit) ≡ outputOf (now (out .entry)) (within (length (now (out .entry))) (storeOf (ledger .cells))))
+        × (r ≡ answerOf (within (length (now (out .entry))) (storeOf (ledger .cells))))
+        × (listedWritten r ≡ outcomeListed (within (length (now (out .entry))) (storeOf (ledger .cells)))) ⌝ }
 {
-    let n = ledger.count;
-    let keys = ledger.keys;
-    let lives = ledger.lives;
-    let readings = ledger.readings;
-    if !is_kept(n, &keys, &lives, &readings) {
+    let cells = ledger.cells;
+    if !is_kept(&cells) {
         return Written::Refused(refusal::RULES_BROKEN);
     }
-    let size = 8 + 16 * n;
+    let size = 8 + 16 * count_of(&cells);
     if out.len() < size {
         return Written::Refused(refusal::OUTPUT_TOO_SHORT);
     }
-    put_page(out, n, &keys, &lives, &readings);
+    put_page(out, &cells);
     Written::Octets(size)
 }

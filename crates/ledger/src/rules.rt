@@ -1,50 +1,60 @@
 // The ledger's rules.
 ghost use mathlib.Core.Path.{_≡_};
-ghost use Prim.Native.Nat.{_≤_, _<_};
-ghost use lib.Dec.{leb};
-ghost use Rattle.ledger.specs.Ledgers.{columns, placeKeeps, keepsRules, rulesRefusal};
+ghost use Prim.Native.Nat.{_<_};
+ghost use Rattle.ledger.specs.Ledgers.{rowKeeps, rowEmpty, placeKeeps, keepsRules, rulesRefusal, asRow};
 use crate::Ledger;
+use crate::cells::CELLS;
+use crate::cells::ROWS;
+use crate::cells::Row;
+use crate::cells::count_of;
+use crate::cells::row_at;
 use octets::refusal;
 
-// Whether a reading does not exceed the life count.
-fn is_covered(reading: u32, life: u64) -> bool
-    ensures { λ r. ⌜ r ≡ leb reading life ⌝ }
+// A key and a reading are below 2^32.
+const WIDTH: u64 = 0x1_0000_0000;
+
+// Whether a row keeps the rules by itself.
+fn is_row_kept(row: Row) -> bool
+    ensures { λ r. ⌜ r ≡ rowKeeps (asRow row) ⌝ }
 {
-    reading as u64 <= life
+    (row.key < WIDTH) & (row.reading <= row.life) & (row.reading < WIDTH)
 }
 
-// Whether a place keeps the rules: a row above the one before it, its reading not above its life count; zeros past the row count.
-fn is_place_kept(
-    count: usize,
-    keys: &[u32; 256],
-    lives: &[u64; 256],
-    readings: &[u32; 256],
-    i: usize,
-) -> bool
-    requires { ⌜ i < 256 ⌝ }
-    ensures { λ r. ⌜ r ≡ placeKeeps (columns count (now (keys .entry)) (now (lives .entry)) (now (readings .entry))) i ⌝ }
+// Whether a place has no row.
+fn is_empty(row: Row) -> bool
+    ensures { λ r. ⌜ r ≡ rowEmpty (asRow row) ⌝ }
 {
-    if i >= count {
-        return (keys[i] == 0) & (lives[i] == 0) & (readings[i] == 0);
+    (row.key == 0) & (row.life == 0) & (row.reading == 0)
+}
+
+// Whether a place keeps the rules: a row above the one before it; zeros past the row count.
+fn is_place_kept(cells: &[u64; CELLS], i: usize) -> bool
+    requires { ⌜ i < 256 ⌝ }
+    ensures { λ r. ⌜ r ≡ placeKeeps (now (cells .entry)) i ⌝ }
+{
+    let row = row_at(cells, i);
+    if i >= count_of(cells) {
+        return is_empty(row);
     }
-    if (i > 0) {
-        if keys[i - 1] >= keys[i] {
+    if i > 0 {
+        let before = row_at(cells, i - 1);
+        if before.key >= row.key {
             return false;
         }
     }
-    is_covered(readings[i], lives[i])
+    is_row_kept(row)
 }
 
-// Whether lent columns keep the rules.
-pub fn is_kept(count: usize, keys: &[u32; 256], lives: &[u64; 256], readings: &[u32; 256]) -> bool
-    ensures { λ r. ⌜ r ≡ keepsRules (columns count (now (keys .entry)) (now (lives .entry)) (now (readings .entry))) ⌝ }
+// Whether lent cells keep the rules.
+pub fn is_kept(cells: &[u64; CELLS]) -> bool
+    ensures { λ r. ⌜ r ≡ keepsRules (now (cells .entry)) ⌝ }
 {
-    if count > 256 {
+    if count_of(cells) > ROWS {
         return false;
     }
     let mut i: usize = 0;
-    while i < 256 {
-        if !is_place_kept(count, keys, lives, readings, i) {
+    while i < ROWS {
+        if !is_place_kept(cells, i) {
             return false;
         }
         i += 1;
@@ -54,12 +64,10 @@ pub fn is_kept(count: usize, keys: &[u32; 256], lives: &[u64; 256], readings: &[
 
 // 16 for a ledger that breaks the rules.
 pub fn check(ledger: Ledger) -> u8
-    ensures { λ r. ⌜ r ≡ rulesRefusal ledger ⌝ }
+    ensures { λ r. ⌜ r ≡ rulesRefusal (ledger .cells) ⌝ }
 {
-    let keys = ledger.keys;
-    let lives = ledger.lives;
-    let readings = ledger.readings;
-    if is_kept(ledger.count, &keys, &lives, &readings) {
+    let cells = ledger.cells;
+    if is_kept(&cells) {
         return refusal::ACCEPTED;
     }
     refusal::RULES_BROKEN

@@ -1,14 +1,17 @@
-// The adding-up rule on a row's numbers.
+// The adding-up rule on a row.
 ghost use mathlib.Core.Path.{_≡_};
-ghost use Prim.Native.Nat.{_+_, _^_};
+ghost use Prim.Native.Nat.{ℕ, _<_, _^_};
 ghost use lib.Dec.{leb};
-ghost use Rattle.rows.specs.Rows.{adds, reads};
+ghost use Rattle.rows.specs.Rows.{adds, reads, addUp};
+ghost use Rattle.ledger.specs.Ledgers.{asRow};
+ghost use Rattle.ledger.specs.Steps.{entry};
+use crate::cells::Row;
 
 // REF of an entry that counts from the last report.
 const FROM_LAST_REPORT: u8 = 1;
 
 // What an entry adds to the life count.
-pub(crate) fn added(reading: u32, reference: u8, count: u32) -> u32
+fn added(reading: u64, reference: u8, count: u64) -> u64
     ensures { λ r. ⌜ r ≡ adds reading reference count ⌝ }
 {
     if reference == FROM_LAST_REPORT {
@@ -21,7 +24,7 @@ pub(crate) fn added(reading: u32, reference: u8, count: u32) -> u32
 }
 
 // The reading after an entry.
-pub(crate) fn read_after(reading: u32, reference: u8, count: u32) -> u32
+fn read_after(reading: u64, reference: u8, count: u64) -> u64
     ensures { λ r. ⌜ r ≡ reads reading reference count ⌝ }
 {
     if reference == FROM_LAST_REPORT {
@@ -30,9 +33,22 @@ pub(crate) fn read_after(reading: u32, reference: u8, count: u32) -> u32
     count
 }
 
-// Whether a sum passes 2^64 - 1.
-pub(crate) fn is_past(life: u64, more: u32) -> bool
-    ensures { λ r. ⌜ r ≡ leb (2 ^ 64) (life + more) ⌝ }
+// Whether an entry's life count would pass 2^64 - 1.
+pub(crate) fn is_past(row: Row, reference: u8, amount: u32) -> bool
+    ensures { λ r. ⌜ ((key time : ℕ) → r ≡ leb (2 ^ 64) (addUp (asRow row) (entry key time reference amount) .life)) ⌝ }
 {
-    0xFFFF_FFFF_FFFF_FFFF - life < more as u64
+    0xFFFF_FFFF_FFFF_FFFF - row.life < added(row.reading, reference, amount as u64)
+}
+
+// An entry added up to a row. The caller has seen that its life count does not pass.
+pub(crate) fn add_up(row: Row, reference: u8, amount: u32) -> Row
+    requires { ⌜ addUp (asRow row) (entry 0 0 reference amount) .life < 2 ^ 64 ⌝ }
+    ensures { λ r. ⌜ ((key time : ℕ) → asRow r ≡ addUp (asRow row) (entry key time reference amount)) ⌝ }
+{
+    let count = amount as u64;
+    Row {
+        key: row.key,
+        life: row.life + added(row.reading, reference, count),
+        reading: read_after(row.reading, reference, count),
+    }
 }

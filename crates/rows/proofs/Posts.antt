@@ -24,7 +24,7 @@ of-append k [] fs = refl
 of-append k (e ∷ es) fs = test (eqb (e .key) k) (λ t. rw t (ap (λ l. e ∷ l) (of-append k es fs))) (λ f. rw f (of-append k es fs))
 
 -- what holds of each row and of a new one holds of the row that an entry is added up to
-each-or-new : (P : Row → Type 0) (rows : List Row) (k : ℕ) → Each P rows → P (newRow k) → P (orNew k (rowOf rows k))
+pub each-or-new : (P : Row → Type 0) (rows : List Row) (k : ℕ) → Each P rows → P (newRow k) → P (orNew k (rowOf rows k))
 unfolding rowOf
 each-or-new P [] k h new = new
 each-or-new P (r ∷ rows) k h new = test (eqb (r .key) k) (λ t. rw t (h .0)) (λ f. rw f (each-or-new P rows k (h .1) new))
@@ -101,7 +101,7 @@ module _ (rule : Row → Entry → Row) (keeps-key : (r : Row) (e : Entry) → r
   -- The ledger's rules
 
   -- what holds of each row and of the row that the entry makes holds of each row after it
-  each-add : (P : Row → Type 0) (rows : List Row) (e : Entry) → Sorted rows → Each P rows
+  pub each-add : (P : Row → Type 0) (rows : List Row) (e : Entry) → Sorted rows → Each P rows
       → P (rule (orNew (e .key) (rowOf rows (e .key))) e) → Each P (addEntry rule rows e)
   each-add P [] e s h p = unfold addEntry rowOf in (p, tt)
   each-add P (r ∷ rows) e s h p =

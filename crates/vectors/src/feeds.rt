@@ -1,12 +1,11 @@
 // The feed layer's cases: a feed that comes in pieces, run over a fresh ledger.
 ghost use Prim.Native.Nat.{_≤_, _<_};
-ghost use Rattle.ledger.specs.Ledgers.{columns};
 ghost use Rattle.ledger.specs.Steps.{Kept};
 use crate::ledgers::say_rows;
 use feed::run::Ending;
 use feed::run::run;
 use feed::totals::Totals;
-use ledger::Ledger;
+use ledger::cells::CELLS;
 use text::more;
 use text::number;
 
@@ -32,22 +31,15 @@ fn with_piece(to: usize, piece: usize, size: usize) -> usize
 }
 
 // A run for each piece, over what waits and the piece; when all octets have come, a last one over what waits.
-fn run_pieces(
-    count: &mut usize,
-    keys: &mut [u32; 256],
-    lives: &mut [u64; 256],
-    readings: &mut [u32; 256],
-    s: &[u8],
-    piece: usize,
-) -> Totals
-    requires { ⌜ Kept (columns (now count) (now keys) (now lives) (now readings)) ⌝ }
+fn run_pieces(cells: &mut [u64; CELLS], s: &[u8], piece: usize) -> Totals
+    requires { ⌜ Kept (now cells) ⌝ }
 {
     let mut totals = NOTHING;
     let mut from: usize = 0;
     let mut to: usize = 0;
     while to < s.len() {
         to = with_piece(to, piece, s.len());
-        let done = run(count, keys, lives, readings, &s[from..to], false, totals);
+        let done = run(cells, &s[from..to], false, totals);
         let ending = done.ending;
         totals = done.totals;
         from += done.at;
@@ -55,7 +47,7 @@ fn run_pieces(
             return totals;
         }
     }
-    let last = run(count, keys, lives, readings, &s[from..], true, totals);
+    let last = run(cells, &s[from..], true, totals);
     last.totals
 }
 
@@ -68,17 +60,8 @@ fn say_totals(text: &mut [u8], held: usize, totals: Totals) -> usize {
 
 // The totals, row count and places.
 pub(crate) fn say_feed(s: &[u8], text: &mut [u8], held: usize, piece: usize) -> usize {
-    let mut count: usize = 0;
-    let mut keys = [0u32; 256];
-    let mut lives = [0u64; 256];
-    let mut readings = [0u32; 256];
-    let totals = run_pieces(&mut count, &mut keys, &mut lives, &mut readings, s, piece);
+    let mut cells = [0u64; CELLS];
+    let totals = run_pieces(&mut cells, s, piece);
     let at = say_totals(text, held, totals);
-    let ledger = Ledger {
-        count,
-        keys,
-        lives,
-        readings,
-    };
-    say_rows(text, at, ledger)
+    say_rows(text, at, &cells)
 }

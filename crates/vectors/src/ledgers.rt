@@ -3,6 +3,12 @@
 use crate::case::unknown;
 use ledger::Answer;
 use ledger::Ledger;
+use ledger::cells::CELLS;
+use ledger::cells::COUNT;
+use ledger::cells::ROWS;
+use ledger::cells::Row;
+use ledger::cells::put_row;
+use ledger::cells::row_at;
 use ledger::page::load;
 use ledger::post::post;
 use text::more;
@@ -27,63 +33,49 @@ fn eight(s: &[u8], at: usize) -> u64 {
 }
 
 pub(crate) fn ledger_of(s: &[u8]) -> Ledger {
-    let mut keys = [0u32; 256];
-    let mut lives = [0u64; 256];
-    let mut readings = [0u32; 256];
+    let mut cells = [0u64; CELLS];
+    cells[COUNT] = eight(s, 0);
     let mut i: usize = 0;
-    while i < 256 {
+    while i < ROWS {
         let at = 8 + 16 * i;
-        keys[i] = four(s, at);
-        lives[i] = eight(s, at + 4);
-        readings[i] = four(s, at + 12);
+        let row = Row {
+            key: four(s, at) as u64,
+            life: eight(s, at + 4),
+            reading: four(s, at + 12) as u64,
+        };
+        put_row(&mut cells, i, row);
         i += 1;
     }
-    Ledger {
-        count: eight(s, 0) as usize,
-        keys,
-        lives,
-        readings,
-    }
+    Ledger { cells }
 }
 
 // A place that is not all zero: its number from 0, key, life count and reading.
-fn say_place(text: &mut [u8], held: usize, i: usize, key: u32, life: u64, reading: u32) -> usize {
-    if (key == 0) & (life == 0) & (reading == 0) {
+fn say_place(text: &mut [u8], held: usize, i: usize, row: Row) -> usize {
+    if (row.key == 0) & (row.life == 0) & (row.reading == 0) {
         return held;
     }
-    let values = [i as u64, key as u64, life, reading as u64];
+    let values = [i as u64, row.key, row.life, row.reading];
     more(text, held, &values)
 }
 
-fn say_places(text: &mut [u8], held: usize, ledger: Ledger) -> usize {
-    let mut at = held;
+// Row count and places.
+pub(crate) fn say_rows(text: &mut [u8], held: usize, cells: &[u64; CELLS]) -> usize {
+    let values = [cells[COUNT]];
+    let mut at = more(text, held, &values);
     let mut i: usize = 0;
-    while i < 256 {
-        at = say_place(
-            text,
-            at,
-            i,
-            ledger.keys[i],
-            ledger.lives[i],
-            ledger.readings[i],
-        );
+    while i < ROWS {
+        at = say_place(text, at, i, row_at(cells, i));
         i += 1;
     }
     at
 }
 
-// Row count and places.
-pub(crate) fn say_rows(text: &mut [u8], held: usize, ledger: Ledger) -> usize {
-    let values = [ledger.count as u64];
-    let at = more(text, held, &values);
-    say_places(text, at, ledger)
-}
-
 // Number, row count and places.
 fn say_ledger(text: &mut [u8], held: usize, answer: Answer) -> usize {
     let ledger = answer.ledger;
+    let cells = ledger.cells;
     let at = number(text, held, answer.number as u64);
-    say_rows(text, at, ledger)
+    say_rows(text, at, &cells)
 }
 
 // A record of a block posted: the ledger's octets, then the block's.

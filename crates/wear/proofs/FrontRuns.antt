@@ -5,8 +5,7 @@ use Prim.Native.Nat.{ℕ, _+_, _≤_}
 use lib.Dec.{eqb}
 use lib.ListN.{length, take}
 use Rattle.octets.specs.Numbers.{Octets}
-use Rattle.ledger.specs.Ledgers.{rowsOf, ledgerOf}
-use Rattle.ledger.specs.declared.Ledger.{Ledger}
+use Rattle.ledger.specs.Ledgers.{rowsOf, cellsOf}
 use Rattle.feed.specs.Runs.{state, Run, runOver, doneOf}
 use Rattle.feed.specs.declared.run.Done.{Done}
 use Rattle.feed.specs.declared.totals.Totals.{Totals}
@@ -19,7 +18,7 @@ abbrev pub turn : ℕ → ℕ → Totals → Going → Reads → Turn
 turn from to t g reads = record { from = from; to = to; totals = t; going = g; reads = reads }
 
 -- what a run ensures
-pub front-ran : (s : List ℕ) (r : Run) (l : Ledger) (d : Done) (g : Going) (told : Reads) → (l ≡ ledgerOf (r .state .rows)) × (d ≡ doneOf r)
+pub front-ran : (s : List ℕ) (r : Run) (l : List ℕ) (d : Done) (g : Going) (told : Reads) → (l ≡ cellsOf (r .state .rows)) × (d ≡ doneOf r)
     → g ≡ goingOf (d .ending) → Ran s r l told (turn (d .at) (length s) (d .totals) g told)
 front-ran s r l d g told ran going = record {
   rows = ran .0;
@@ -33,7 +32,7 @@ front-ran s r l d g told ran going = record {
 -- A buffer as it was lent, with what waited moved to its front, and after the read: a run over its front is a run over what waited and what came.
 pub came-behind : (before : Turn) (b₀ b₁ b₂ : List ℕ) (h n : ℕ) (told : Reads) → h ≡ held before → take h b₁ ≡ waiting before b₀
     → take h b₂ ≡ take h b₁ → h + n ≤ length b₂ → Octets b₂ → told ≡ heard (before .reads) n
-    → (l₀ l : Ledger) (now : Turn) → Ran (take (h + n) b₂) (runOver (take (h + n) b₂) (eqb n 0) (state (rowsOf l₀) (before .totals))) l told now
+    → (l₀ l : List ℕ) (now : Turn) → Ran (take (h + n) b₂) (runOver (take (h + n) b₂) (eqb n 0) (state (rowsOf l₀) (before .totals))) l told now
     → Came before b₀ l₀ b₂ l now
 came-behind before b₀ b₁ b₂ h n told many kept same fits o is l₀ l now r =
     let over : ℕ → Run = λ k. runOver (take (k + n) b₂) (eqb n 0) (state (rowsOf l₀) (before .totals)) in

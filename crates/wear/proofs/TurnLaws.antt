@@ -6,18 +6,16 @@ use mathlib.Core.Path.{_≡_, refl, sym, ap, _∙_, subst}
 use Prim.Native.Nat.{ℕ, zero, suc, _+_, _-_, _^_, _≤_, _<_}
 use native.Mathlib.Omega.{arith}
 use lib.Dec.{eqb, leb}
-use lib.ListN.{length, take, drop, replicate, length-append, length-drop}
+use lib.ListN.{length, take, drop, length-append, length-drop}
 use lib.Seq.{drop-drop, drop-append-le, take-add, length-take-le}
 use borrow.Author.Tests.{leb-true, leb-false, eqb-false}
 use Rattle.octets.specs.Choice.{pick}
 use Rattle.octets.specs.Numbers.{Octets}
 use Rattle.octets.proofs.Cases.{test}
 use Rattle.octets.proofs.Parts.{Octets-drop, Octets-take}
-use Rattle.rows.specs.Posting.{Good}
-use Rattle.ledger.specs.Ledgers.{columns, rowsOf, ledgerOf}
+use Rattle.ledger.specs.Ledgers.{rowsOf, cellsOf}
 use Rattle.ledger.specs.Steps.{Kept}
-use Rattle.ledger.specs.declared.Ledger.{Ledger}
-use Rattle.ledger.proofs.ColumnLaws.{rows-back}
+use Rattle.ledger.proofs.CellLaws.{rows-back, ruled-none}
 use Rattle.feed.specs.Blocks.{nextOf}
 use Rattle.feed.specs.Runs.{State, state, Run, behind, runFrom, runOver, zeros}
 use Rattle.feed.specs.Totals.{up}
@@ -37,14 +35,6 @@ use Rattle.wear.proofs.FrontRuns.{turn}
 abbrev fresh : State
 fresh = state [] zeros
 
-good-none : Good []
-good-none = record { rises = tt; few = omega arith; read = tt; lived = tt }
-
--- its columns are all zero
-pub fresh-columns : columns 0 (replicate 256 0) (replicate 256 0) (replicate 256 0) ≡ ledgerOf []
-unfolding ledgerOf
-fresh-columns = refl
-
 octets-both : (s t : List ℕ) → Octets s → Octets t → Octets (s ++ t)
 octets-both [] t o p i = p i
 octets-both (x ∷ s) t o p zero = o 0
@@ -58,9 +48,9 @@ up-most n h =
     (λ f. let l = leb-false (2 ^ 64) n f in up-low 0 n (omega arith) ∙ omega arith)
 
 -- A run over all octets that have come is done; what it left of them waits in the buffer, and the reads have given as many as they are.
-pub record Done (s : List ℕ) (over : Bool) (buffer : List ℕ) (l : Ledger) (now : Turn) : Type 0 where
+pub record Done (s : List ℕ) (over : Bool) (buffer l : List ℕ) (now : Turn) : Type 0 where
   pub octets : Octets s
-  pub rows : l ≡ ledgerOf (runOver s over fresh .state .rows)
+  pub rows : l ≡ cellsOf (runOver s over fresh .state .rows)
   pub totals : now .totals ≡ runOver s over fresh .state .totals
   pub going : now .going ≡ goingOf (runOver s over fresh .ending)
   pub order : now .from ≤ now .to
@@ -69,12 +59,12 @@ pub record Done (s : List ℕ) (over : Bool) (buffer : List ℕ) (l : Ledger) (n
   pub all : now .reads .octets ≡ up 0 (length s)
 
 -- and it waits for more
-pub record Waits (s buffer : List ℕ) (l : Ledger) (now : Turn) : Type 0 where
+pub record Waits (s buffer l : List ℕ) (now : Turn) : Type 0 where
   pub done : Done s false buffer l now
   pub more : runOver s false fresh .ending ≡ Ending.More
 
 -- none has come
-pub waits-none : (buffer : List ℕ) (l : Ledger) (told : Reads) → l ≡ ledgerOf [] → told ≡ unread → Waits [] buffer l (turn 0 0 zeros Going.On told)
+pub waits-none : (buffer l : List ℕ) (told : Reads) → l ≡ cellsOf [] → told ≡ unread → Waits [] buffer l (turn 0 0 zeros Going.On told)
 unfolding runFrom nextOf
 waits-none buffer l told e u = record {
   done = record {
@@ -117,7 +107,7 @@ never-failed ending.More h = failed-not h .0 refl
 never-failed ending.Ended h = failed-not h .1 refl
 never-failed ending.Stopped h = failed-not h .1 refl
 
-module _ (s buffer : List ℕ) (l : Ledger) (now : Turn) where
+module _ (s buffer l : List ℕ) (now : Turn) where
   done-on : (over : Bool) → Done s over buffer l now → now .going ≡ Going.On → Waits s buffer l now × (over ≡ false)
   done-on true d e = absurd (on-waits (runOver s true fresh .ending) (sym (d .going) ∙ e) (run-left s true fresh .proper))
   done-on false d e = (record { done = d; more = on-more _ (sym (d .going) ∙ e) }, refl)
@@ -133,19 +123,19 @@ module _ (s buffer : List ℕ) (l : Ledger) (now : Turn) where
         octets = d .octets;
         all = d .all;
         whole = inr stopped;
-        rows = d .rows ∙ sym (ap (λ (x : Run). ledgerOf (x .state .rows)) same);
+        rows = d .rows ∙ sym (ap (λ (x : Run). cellsOf (x .state .rows)) same);
         totals = d .totals ∙ sym (ap (λ (x : Run). x .state .totals) same);
       }
 
 -- Octets wait, and a turn is taken
 
-module _ (s buffer : List ℕ) (l : Ledger) (now : Turn) (w : Waits s buffer l now) where
+module _ (s buffer l : List ℕ) (now : Turn) (w : Waits s buffer l now) where
   abbrev run : Run
   run = runOver s false fresh
 
   -- the ledger keeps the rules
   pub waits-kept : Kept l
-  waits-kept = subst Kept (sym (w .done .rows)) (kept-run (suc (length s)) s false fresh good-none)
+  waits-kept = subst Kept (sym (w .done .rows)) (kept-run (suc (length s)) s (w .done .octets) false fresh ruled-none)
 
   -- as many octets wait as the run left
   many : held now ≡ length (drop (run .at) s)
@@ -170,7 +160,7 @@ module _ (s buffer : List ℕ) (l : Ledger) (now : Turn) (w : Waits s buffer l n
         same = ap rowsOf (w .done .rows) ∙ rows-back (run .state .rows)
 
   -- octets came
-  module _ (out : List ℕ) (m : Ledger) (then : Turn) (c : Came now buffer l out m then) where
+  module _ (out m : List ℕ) (then : Turn) (c : Came now buffer l out m then) where
     abbrev n : ℕ
     n = c .n
 
@@ -201,7 +191,7 @@ module _ (s buffer : List ℕ) (l : Ledger) (now : Turn) (w : Waits s buffer l n
         let r = c .ran in
         record {
           octets = octets-both s t (w .done .octets) came-octets;
-          rows = r .rows ∙ sym (ap (λ (x : Run). ledgerOf (x .state .rows)) all);
+          rows = r .rows ∙ sym (ap (λ (x : Run). cellsOf (x .state .rows)) all);
           totals = r .totals ∙ sym (ap (λ (x : Run). x .state .totals) all);
           going = r .going ∙ sym (ap (λ (x : Run). goingOf (x .ending)) all);
           order = omega (arith, r .from, r .to, run-left front (eqb n 0) (state (rowsOf l) (now .totals)) .within);
@@ -227,7 +217,7 @@ module _ (s buffer : List ℕ) (l : Ledger) (now : Turn) (w : Waits s buffer l n
         (λ e. ap (λ x. x .input) (c .ran .reads) ∙ ap (λ b. pick b Going.Over Going.On) e)
 
   -- a turn goes on, or the run is over, or the read failed
-  module _ (out : List ℕ) (m : Ledger) (then : Turn) where
+  module _ (out m : List ℕ) (then : Turn) where
     pub turn-on : Turned now buffer l out m then → then .going ≡ Going.On → (u : List ℕ) × Waits u out m then × (length s < length u)
     turn-on (inl f) e = failed-not (f .0) .0 e
     turn-on (inr c) e = came-on out m then c e
@@ -248,9 +238,9 @@ module _ (s buffer : List ℕ) (l : Ledger) (now : Turn) (w : Waits s buffer l n
   pub waits-last : 2 ^ 64 - 1 ≤ length s → now .going ≡ Going.On → Turns l now
   waits-last h e = record { over = on-not-over e; failed = λ f. failed-not f .0 e; on = λ e. w .done .all ∙ up-most (length s) h }
 
--- The ledger of a whole feed has 256 rows at most.
-pub worn-few : (l : Ledger) (last : Turn) → Worn l last → l .count ≤ 256
-worn-few l last w = subst Kept (sym (w .rows)) (kept-run (suc (length (w .feed))) (w .feed) true fresh good-none) .few
+-- The ledger of a whole feed keeps the rules.
+pub worn-kept : (l : List ℕ) (last : Turn) → Worn l last → Kept l
+worn-kept l last w = subst Kept (sym (w .rows)) (kept-run (suc (length (w .feed))) (w .feed) (w .octets) true fresh ruled-none)
 
 -- Nothing can be printed before the first read.
 unread-feed : (s : List ℕ) → 0 ≡ up 0 (length s) → runOver s false fresh .ending ≡ Ending.Stopped → ⊥
@@ -261,6 +251,6 @@ unread-feed (x ∷ s) h e =
     (λ t. let w = up-high 0 (suc (length s)) (omega (arith, leb-true (2 ^ 64) (suc (length s)) t)) in omega arith)
     (λ f. let w = up-low 0 (suc (length s)) (omega (arith, leb-false (2 ^ 64) (suc (length s)) f)) in omega arith)
 
-pub unread-none : (l : Ledger) (now : Turn) → now .reads ≡ unread → Worn l now → ⊥
+pub unread-none : (l : List ℕ) (now : Turn) → now .reads ≡ unread → Worn l now → ⊥
 unread-none l now u w =
     ⊎-elim (λ e. on-not-over (ap (λ x. x .input) u) e) (unread-feed (w .feed) (sym (ap (λ x. x .octets) u) ∙ w .all)) (w .whole)

@@ -10,8 +10,7 @@ use lib.ListN.{length, take, drop}
 use Rattle.libc.specs.Io.{Moved}
 use Rattle.octets.specs.Choice.{pick}
 use Rattle.octets.specs.Numbers.{Octets}
-use Rattle.ledger.specs.Ledgers.{rowsOf, ledgerOf}
-use Rattle.ledger.specs.declared.Ledger.{Ledger}
+use Rattle.ledger.specs.Ledgers.{rowsOf, cellsOf}
 use Rattle.feed.specs.Totals.{up}
 use Rattle.feed.specs.Runs.{Run, state, runOver, wearOf, zeros}
 use Rattle.feed.specs.declared.run.Ending.{Ending}
@@ -49,8 +48,8 @@ goingOf ending.Ended = Going.Over
 goingOf ending.Stopped = Going.Over
 
 -- A run over octets is done: its rows are in the ledger, its totals in the turn, and what it left of them waits.
-pub record Ran (s : List ℕ) (r : Run) (l : Ledger) (told : Reads) (turn : Turn) : Type 0 where
-  pub rows : l ≡ ledgerOf (r .state .rows)
+pub record Ran (s : List ℕ) (r : Run) (l : List ℕ) (told : Reads) (turn : Turn) : Type 0 where
+  pub rows : l ≡ cellsOf (r .state .rows)
   pub totals : turn .totals ≡ r .state .totals
   pub going : turn .going ≡ goingOf (r .ending)
   pub from : turn .from ≡ r .at
@@ -72,7 +71,7 @@ pub record Waiting (turn : Turn) (buffer : List ℕ) : Type 0 where
 
 -- So many octets came. The buffer begins with those that waited, what came stands behind them, and a run over just these is done. Where none came, the
 -- input is over.
-pub record Came (before : Turn) (buffer₀ : List ℕ) (l₀ : Ledger) (buffer : List ℕ) (l : Ledger) (turn : Turn) : Type 0 where
+pub record Came (before : Turn) (buffer₀ l₀ buffer l : List ℕ) (turn : Turn) : Type 0 where
   pub n : ℕ
   pub fits : held before + n ≤ length buffer
   pub octets : Octets buffer
@@ -83,22 +82,22 @@ pub record Came (before : Turn) (buffer₀ : List ℕ) (l₀ : Ledger) (buffer :
       l (heard (before .reads) n) turn
 
 -- A turn: octets came, or the read failed.
-abbrev pub Turned : Turn → List ℕ → Ledger → List ℕ → Ledger → Turn → Type 0
+abbrev pub Turned : Turn → List ℕ → List ℕ → List ℕ → List ℕ → Turn → Type 0
 Turned before buffer₀ l₀ buffer l turn =
     ((turn .going ≡ Going.Failed) × (turn .reads ≡ unheard (before .reads))) ⊎ Came before buffer₀ l₀ buffer l turn
 
 -- The ledger and the totals of a feed that has as many octets as the reads have given, and of which nothing is to come: the last read gave nothing, or
 -- the run has stopped. Before the first read there is none (proofs/TurnLaws.antt `unread-none`).
-pub record Worn (l : Ledger) (turn : Turn) : Type 0 where
+pub record Worn (l : List ℕ) (turn : Turn) : Type 0 where
   pub feed : List ℕ
   pub octets : Octets feed
   pub all : turn .reads .octets ≡ up 0 (length feed)
   pub whole : (turn .reads .input ≡ Going.Over) ⊎ (runOver feed false (state [] zeros) .ending ≡ Ending.Stopped)
-  pub rows : l ≡ ledgerOf (wearOf feed .rows)
+  pub rows : l ≡ cellsOf (wearOf feed .rows)
   pub totals : turn .totals ≡ wearOf feed .totals
 
 -- Turn after turn: where the run is over, it is that; otherwise a read failed, or more octets have come than can be counted.
-pub record Turns (l : Ledger) (turn : Turn) : Type 0 where
+pub record Turns (l : List ℕ) (turn : Turn) : Type 0 where
   pub over : turn .going ≡ Going.Over → Worn l turn
   pub failed : turn .going ≡ Going.Failed → turn .reads .input ≡ Going.Failed
   pub on : turn .going ≡ Going.On → turn .reads .octets ≡ 2 ^ 64 - 1

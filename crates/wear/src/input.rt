@@ -2,7 +2,7 @@
 ghost use mathlib.Core.Path.{_≡_};
 ghost use Prim.Native.Nat.{_-_, _≤_, _<_};
 ghost use lib.ListN.{length, take, drop};
-ghost use Rattle.ledger.specs.Ledgers.{columns, rowsOf};
+ghost use Rattle.ledger.specs.Ledgers.{rowsOf};
 ghost use Rattle.ledger.specs.Steps.{Kept};
 ghost use Rattle.feed.specs.Runs.{state, runOver};
 ghost use Rattle.wear.specs.Turns.{goingOf, Waiting, Ran, Turned};
@@ -13,6 +13,7 @@ use crate::reads::read_behind;
 use feed::run::Ending;
 use feed::run::run;
 use feed::totals::Totals;
+use ledger::cells::CELLS;
 
 // Between which offsets of the buffer octets wait, what has been counted, whether the run goes on, and what the reads have given.
 pub struct Turn {
@@ -55,19 +56,16 @@ fn going_of(ending: Ending) -> Going
 fn run_front(
     s: &[u8],
     is_over: bool,
-    count: &mut usize,
-    keys: &mut [u32; 256],
-    lives: &mut [u64; 256],
-    readings: &mut [u32; 256],
+    cells: &mut [u64; CELLS],
     totals: Totals,
     reads: Reads,
 ) -> Turn
-    requires { ⌜ Kept (columns (now count) (now keys) (now lives) (now readings)) ⌝ }
+    requires { ⌜ Kept (now cells) ⌝ }
     ensures { λ r. ⌜ Ran (now (s .entry))
-        (runOver (now (s .entry)) «is_over» (state (rowsOf (columns (now (count .entry)) (now (keys .entry)) (now (lives .entry)) (now (readings .entry)))) totals))
-        (columns (now (count .exit)) (now (keys .exit)) (now (lives .exit)) (now (readings .exit))) reads r ⌝ }
+        (runOver (now (s .entry)) «is_over» (state (rowsOf (now (cells .entry))) totals))
+        (now (cells .exit)) reads r ⌝ }
 {
-    let done = run(count, keys, lives, readings, s, is_over, totals);
+    let done = run(cells, s, is_over, totals);
     let after = done.totals;
     let ending = done.ending;
     Turn {
@@ -80,18 +78,11 @@ fn run_front(
 }
 
 // What waits goes to the front, one read comes behind it, and a run goes over both. A read of nothing is the end of the input; one that fails is not.
-pub(crate) fn take_turn(
-    buffer: &mut [u8],
-    count: &mut usize,
-    keys: &mut [u32; 256],
-    lives: &mut [u64; 256],
-    readings: &mut [u32; 256],
-    before: Turn,
-) -> Turn
-    requires { ⌜ Waiting before (now buffer) × Kept (columns (now count) (now keys) (now lives) (now readings)) ⌝ }
+pub(crate) fn take_turn(buffer: &mut [u8], cells: &mut [u64; CELLS], before: Turn) -> Turn
+    requires { ⌜ Waiting before (now buffer) × Kept (now cells) ⌝ }
     ensures { λ r. ⌜ Turned before (now (buffer .entry))
-        (columns (now (count .entry)) (now (keys .entry)) (now (lives .entry)) (now (readings .entry)))
-        (now (buffer .exit)) (columns (now (count .exit)) (now (keys .exit)) (now (lives .exit)) (now (readings .exit))) r ⌝ }
+        (now (cells .entry))
+        (now (buffer .exit)) (now (cells .exit)) r ⌝ }
 {
     let totals = before.totals;
     let reads = before.reads;
@@ -107,16 +98,7 @@ pub(crate) fn take_turn(
         },
         Input::Came(n, told) => {
             let end = held + n;
-            run_front(
-                &buffer[..end],
-                n == 0,
-                count,
-                keys,
-                lives,
-                readings,
-                totals,
-                told,
-            )
+            run_front(&buffer[..end], n == 0, cells, totals, told)
         }
     }
 }

@@ -2,7 +2,7 @@
 ghost use mathlib.Core.List.{[]};
 ghost use mathlib.Core.Path.{_≡_};
 ghost use lib.ListN.{length};
-ghost use Rattle.ledger.specs.Ledgers.{columns, ledgerOf};
+ghost use Rattle.ledger.specs.Ledgers.{cellsOf};
 ghost use Rattle.wear.specs.Turns.{Turns};
 
 mod input;
@@ -13,18 +13,13 @@ use crate::input::Turn;
 use crate::input::take_turn;
 use crate::reads::Going;
 use feed::totals::Totals;
+use ledger::cells::CELLS;
 
 // Turns until the run is over or a read fails. A proved loop has to end, and nothing says that the input does: it counts its turns down, from a
 // number that no run uses up.
-fn turns(
-    buffer: &mut [u8],
-    count: &mut usize,
-    keys: &mut [u32; 256],
-    lives: &mut [u64; 256],
-    readings: &mut [u32; 256],
-) -> Turn
-    requires { ⌜ (length (now buffer) ≡ 131072) × (columns (now count) (now keys) (now lives) (now readings) ≡ ledgerOf []) ⌝ }
-    ensures { λ r. ⌜ Turns (columns (now (count .exit)) (now (keys .exit)) (now (lives .exit)) (now (readings .exit))) r ⌝ }
+fn turns(buffer: &mut [u8], cells: &mut [u64; CELLS]) -> Turn
+    requires { ⌜ (length (now buffer) ≡ 131072) × (now cells ≡ cellsOf []) ⌝ }
+    ensures { λ r. ⌜ Turns (now (cells .exit)) r ⌝ }
 {
     let mut now = Turn {
         from: 0,
@@ -40,7 +35,7 @@ fn turns(
     };
     let mut left = u64::MAX;
     while 0 < left {
-        now = take_turn(buffer, count, keys, lives, readings, now);
+        now = take_turn(buffer, cells, now);
         let going = now.going;
         if let Going::On = going {
             left -= 1;
@@ -54,20 +49,11 @@ fn turns(
 // One buffer that holds the longest block twice over, and one ledger, whatever the length of the input.
 fn main() {
     let mut buffer = [0u8; 131072];
-    let mut count: usize = 0;
-    let mut keys = [0u32; 256];
-    let mut lives = [0u64; 256];
-    let mut readings = [0u32; 256];
-    let last = turns(
-        &mut buffer,
-        &mut count,
-        &mut keys,
-        &mut lives,
-        &mut readings,
-    );
+    let mut cells = [0u64; CELLS];
+    let last = turns(&mut buffer, &mut cells);
     let going = last.going;
     if let Going::Over = going {
-        panel::print(count, &keys, &lives, &readings, last);
+        panel::print(&cells, last);
     } else {
         io::write_all(
             2,

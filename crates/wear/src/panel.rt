@@ -1,8 +1,10 @@
 // What is printed: a header, the rows by key, and the totals.
-ghost use Prim.Native.Nat.{_≤_};
-ghost use Rattle.ledger.specs.Ledgers.{columns};
+ghost use Rattle.ledger.specs.Steps.{Kept};
 ghost use Rattle.wear.specs.Turns.{Worn};
 use crate::input::Turn;
+use ledger::cells::CELLS;
+use ledger::cells::count_of;
+use ledger::cells::row_at;
 
 // The four octets of a key.
 fn octets_of(key: u32) -> [u8; 4] {
@@ -15,9 +17,9 @@ fn octets_of(key: u32) -> [u8; 4] {
 }
 
 // A row: the key in 8 hex digits, life count and reading.
-fn row(text: &mut [u8], held: usize, key: u32, life: u64, reading: u32) -> usize {
+fn row(text: &mut [u8], held: usize, key: u32, life: u64, reading: u64) -> usize {
     let octets = octets_of(key);
-    let values = [life, reading as u64];
+    let values = [life, reading];
     let at = text::hex(text, held, &octets);
     let end = text::more(text, at, &values);
     text::emit(text, end, b'\n')
@@ -30,40 +32,29 @@ fn total(text: &mut [u8], held: usize, word: &[u8], n: u64) -> usize {
     text::more(text, at, &values)
 }
 
-fn rows(
-    text: &mut [u8],
-    held: usize,
-    count: usize,
-    keys: &[u32; 256],
-    lives: &[u64; 256],
-    readings: &[u32; 256],
-) -> usize
-    requires { ⌜ count ≤ 256 ⌝ }
+fn rows(text: &mut [u8], held: usize, cells: &[u64; CELLS]) -> usize
+    requires { ⌜ Kept (now cells) ⌝ }
 {
+    let n = count_of(cells);
     let mut at = held;
     let mut i: usize = 0;
-    while i < count {
-        at = row(text, at, keys[i], lives[i], readings[i]);
+    while i < n {
+        let r = row_at(cells, i);
+        at = row(text, at, r.key as u32, r.life, r.reading);
         i += 1;
     }
     at
 }
 
 // Only for the ledger and the totals of a whole feed, at the turn with which its reads have come to an end.
-pub(crate) fn print(
-    count: usize,
-    keys: &[u32; 256],
-    lives: &[u64; 256],
-    readings: &[u32; 256],
-    last: Turn,
-)
-    requires { ⌜ Worn (columns count (now keys) (now lives) (now readings)) last ⌝ }
+pub(crate) fn print(cells: &[u64; CELLS], last: Turn)
+    requires { ⌜ Worn (now cells) last ⌝ }
 {
     let totals = last.totals;
     let mut space = [0u8; 4096];
     let text: &mut [u8] = &mut space;
     let head = text::emit_all(text, 0, b"counter life reading\n");
-    let behind = rows(text, head, count, keys, lives, readings);
+    let behind = rows(text, head, cells);
     let a = total(text, behind, b"accepted", totals.accepted);
     let b = total(text, a, b" refused", totals.refused);
     let c = total(text, b, b" posted", totals.posted);

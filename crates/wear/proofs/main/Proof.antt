@@ -2,17 +2,17 @@
 use Prim.Native.Nat.{ℕ}
 use borrow.Author.Needs.{needs}
 use lib.ListN.{length-replicate}
-use Rattle.wear.proofs.TurnLaws as laws
+use Rattle.ledger.proofs.CellLaws.{fresh-cells}
 use Rattle.wear.proofs.main.Statement.{statement}
 use Rattle.wear.proofs.main.Tie as tie
 
 turns-requires : tie.Need-turns-requires
-turns-requires c κs = (length-replicate {A = ℕ} 131072 0, laws.fresh-columns)
+turns-requires c κs = (length-replicate {A = ℕ} 131072 0, fresh-cells)
 
 print-requires : tie.Need-print-requires
 print-requires c κs =
-    let turns = c .before .before .before .before .before .before in
-    turns .turns .ensures .over (c .before .before .before .enum-told .given .1)
+    let turns = c .before .before .before .before in
+    turns .turns .ensures .over (c .before .enum-told .given .1)
 
 pub main-spec : {M : Type 1} → statement M
 main-spec =

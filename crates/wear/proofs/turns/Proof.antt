@@ -8,7 +8,6 @@ use borrow.Author.Needs.{needs}
 use denote.Enum.Declared.{declared, tagOf}
 use types.Run.{OneOf}
 use lib.ListN.{length}
-use Rattle.ledger.specs.Ledgers.{columns}
 use Rattle.wear.specs.declared.reads.Going.{Going}
 use Rattle.wear.proofs.TurnLaws as laws
 use Rattle.wear.proofs.reads.Going.{enum}
@@ -16,12 +15,12 @@ use Rattle.wear.proofs.turns.Statement.{statement}
 use Rattle.wear.proofs.turns.Tie as tie
 
 abbrev Inv-loop : tie.InvT-loop
-Inv-loop buffer₀ count₀ keys₀ lives₀ readings₀ now₀ left₀ buffer count keys lives readings now left =
+Inv-loop buffer₀ cells₀ now₀ left₀ buffer cells now left =
     (length buffer ≡ length buffer₀) × (now .going ≡ Going.On)
-    × ((s : List ℕ) × laws.Waits s buffer (columns count keys lives readings) now × (2 ^ 64 - 1 ≤ length s + left))
+    × ((s : List ℕ) × laws.Waits s buffer cells now × (2 ^ 64 - 1 ≤ length s + left))
 
 abbrev μ-loop : tie.MeasureT-loop
-μ-loop buffer₀ count₀ keys₀ lives₀ readings₀ now₀ left₀ buffer count keys lives readings now left = left
+μ-loop buffer₀ cells₀ now₀ left₀ buffer cells now left = left
 
 -- no octet has come
 loop-holds : tie.Need-loop-holds Inv-loop μ-loop
@@ -31,7 +30,7 @@ loop-holds c =
 
 take-turn-requires : tie.Need-take-turn-requires Inv-loop μ-loop
 take-turn-requires c κs =
-    let l = c .before .before .before .before .before .before in
+    let l = c .before .before .before in
     let w = l .loop .inv .2 .1 in
     (laws.waits-room _ (l .loop .buffer) _ _ w (l .loop .inv .0 ∙ l .before .before .before .pre .0), laws.waits-kept _ (l .loop .buffer) _ _ w)
 
@@ -39,7 +38,7 @@ take-turn-requires c κs =
 loop-again : tie.Need-loop-again Inv-loop μ-loop
 loop-again c =
     let turn = c .before .before .before .before in
-    let l = turn .before .before .before .before .before .before .before in
+    let l = turn .before .before .before .before in
     let u = laws.turn-on _ (l .loop .buffer) _ _ (l .loop .inv .2 .1) _ _ _ (turn .take-turn .ensures) (c .enum-told .given .1) in
     (turn .take-turn .kept .0 ∙ l .loop .inv .0, c .enum-told .given .1, (u .0, u .1, omega (arith, u .2, l .loop .inv .2 .2)))
 
@@ -50,13 +49,13 @@ not-on g w e = ⊎-elim (λ z. omega arith) (λ z. omega arith) (subst (λ g. On
 returns : tie.Need-returns Inv-loop μ-loop
 returns c =
     let turn = c .before .before .before in
-    let l = turn .before .before .before .before .before .before .before in
+    let l = turn .before .before .before .before in
     laws.turn-ends _ (l .loop .buffer) _ _ (l .loop .inv .2 .1) _ _ _ (turn .take-turn .ensures) (not-on _ (c .match .keys2))
 
 same-length : tie.Need-same-length Inv-loop μ-loop
 same-length c =
     let turn = c .before .before .before in
-    turn .take-turn .kept .0 ∙ turn .before .before .before .before .before .before .before .loop .inv .0
+    turn .take-turn .kept .0 ∙ turn .before .before .before .before .loop .inv .0
 
 -- turns are used up
 returns-2 : tie.Need-returns-2 Inv-loop μ-loop

@@ -4,18 +4,16 @@ use mathlib.Core.Path.{_∙_}
 use Prim.Native.Nat.{_-_}
 use native.Mathlib.Omega.{arith}
 use borrow.Author.Needs.{needs}
-use Rattle.ledger.specs.Ledgers.{columns}
 use Rattle.feed.proofs.BlockReports.{head}
 use Rattle.feed.proofs.BlockSteps as steps
 use Rattle.feed.proofs.block.post_block.Statement.{statement}
 use Rattle.feed.proofs.block.post_block.Tie as tie
 
 abbrev Inv-loop : tie.InvT-loop
-Inv-loop count₀ keys₀ lives₀ readings₀ s len number after₀ at₀ count keys lives readings after at =
-    steps.Posting s len (columns count₀ keys₀ lives₀ readings₀) after₀ (columns count keys lives readings) after at
+Inv-loop cells₀ s len number after₀ at₀ cells after at = steps.Posting s len cells₀ after₀ cells after at
 
 abbrev μ-loop : tie.MeasureT-loop
-μ-loop count₀ keys₀ lives₀ readings₀ s len number after₀ at₀ count keys lives readings after at = len - at
+μ-loop cells₀ s len number after₀ at₀ cells after at = len - at
 
 -- there is a first octet
 shared-slice-read-number : tie.Need-shared-slice-read-number Inv-loop μ-loop
@@ -67,7 +65,7 @@ loop-again c =
 -- a statistics report
 post-report-requires : tie.Need-post-report-requires Inv-loop μ-loop
 post-report-requires c κs =
-    let w = c .before .before .before .before .before in
+    let w = c .before .before in
     let t = w .before .before in
     let l = t .before .before in
     let k = l .before .before in
@@ -76,7 +74,7 @@ post-report-requires c κs =
 
 loop-less-2 : tie.Need-loop-less-2 Inv-loop μ-loop
 loop-less-2 c =
-    let w = c .before .before .before .before .before .before .before in
+    let w = c .before .before .before .before in
     let t = w .before .before in
     let l = t .before .before in
     let k = l .before .before in
@@ -86,7 +84,7 @@ loop-less-2 c =
 
 loop-again-2 : tie.Need-loop-again-2 Inv-loop μ-loop
 loop-again-2 c =
-    let w = c .before .before .before .before .before .before .before in
+    let w = c .before .before .before .before in
     let t = w .before .before in
     let l = t .before .before in
     let k = l .before .before in

@@ -3,18 +3,17 @@ use mathlib.Core.Logic.{⊎-elim}
 use mathlib.Core.Path.{sym, _∙_}
 use native.Mathlib.Omega.{arith}
 use borrow.Author.Needs.{needs}
-use Rattle.ledger.specs.Ledgers.{columns, rowsOf}
+use Rattle.ledger.specs.Ledgers.{rowsOf}
 use Rattle.feed.specs.Runs.{state}
 use Rattle.feed.proofs.RunSteps as steps
 use Rattle.feed.proofs.run.run.Statement.{statement}
 use Rattle.feed.proofs.run.run.Tie as tie
 
 abbrev Inv-loop : tie.InvT-loop
-Inv-loop count₀ keys₀ lives₀ readings₀ s is-over after₀ at₀ left₀ count keys lives readings after at left =
-    steps.Going s is-over (state (rowsOf (columns count₀ keys₀ lives₀ readings₀)) after₀) (columns count keys lives readings) after at left
+Inv-loop cells₀ s is-over after₀ at₀ left₀ cells after at left = steps.Going s is-over (state (rowsOf cells₀) after₀) cells after at left
 
 abbrev μ-loop : tie.MeasureT-loop
-μ-loop count₀ keys₀ lives₀ readings₀ s is-over after₀ at₀ left₀ count keys lives readings after at left = left
+μ-loop cells₀ s is-over after₀ at₀ left₀ cells after at left = left
 
 -- the run has ended, stops, or waits for more
 returns : tie.Need-returns Inv-loop μ-loop
@@ -49,7 +48,7 @@ add-at c =
 -- the block was accepted
 post-block-requires : tie.Need-post-block-requires Inv-loop μ-loop
 post-block-requires c κs =
-    let w = c .before .before .before .before .before in
+    let w = c .before .before in
     let b = w .before .before in
     let l = b .before .before .before in
     steps.going-asks _ _ _ _ _ _ _ (l .loop .inv) (b .before .before .loop-test .taken) (λ j. l .before .shared-slice-known .given j .fits)
@@ -58,7 +57,7 @@ post-block-requires c κs =
 -- the next offset is within the octets
 add-at-2 : tie.Need-add-at-2 Inv-loop μ-loop
 add-at-2 c =
-    let w = c .before .before .before .before .before .before in
+    let w = c .before .before .before in
     let b = w .before .before in
     let l = b .before .before .before in
     let g = steps.going-accepted _ _ _ _ _ _ _ (l .loop .inv) (b .before .before .loop-test .taken)
@@ -72,13 +71,13 @@ loop-again c =
     let b = c .before in
     let l = b .before .before .before in
     ⊎-elim
-    (λ w. rw (w .4, w .5, w .6, w .7, w .8, w .9)
+    (λ w. rw (w .4, w .5, w .6)
     (steps.going-skipped _ _ _ _ _ _ _ (l .loop .inv) (b .before .before .loop-test .taken)
     (λ j. l .before .shared-slice-known .given j .fits) _ (sym (w .1 .given .1) ∙ b .next-block .ensures) _ (w .3 .ensures)))
-    (λ w. rw (w .8, w .9, w .10, w .11, w .12, w .13)
+    (λ w. rw (w .5, w .6, w .7)
     (steps.going-accepted _ _ _ _ _ _ _ (l .loop .inv) (b .before .before .loop-test .taken)
     (λ j. l .before .shared-slice-known .given j .fits) _ (sym (w .1 .given .1) ∙ b .next-block .ensures)
-    _ _ (w .7 .ensures .0) (w .7 .ensures .1)))
+    _ _ (w .4 .ensures .0) (w .4 .ensures .1)))
     (c .match .came)
 
 pub run-spec : {M : Type 1} → statement M

@@ -71,8 +71,8 @@ module _ {M : Type 1} (𝓤 : URA M) (H : Heap 𝓤) (A : Atoms 𝓤) (at-mem : 
     abbrev Ensured : SProp 𝓤
     Ensured = ensured 𝓤 H A callee.ended (callee.clauses 𝓤 H A at-mem run) (ν, tt) (l, (s, (k, tt))) tt r
 
-    called : ent 𝓤 Ensured (fact 𝓤 (r ≡ postOf l (s .now) k))
-    called = exE 𝓤 _ (λ ws. snd∗ 𝓤 (sem 𝓤 H A (lasts callee.ended (ν, tt) (l, (s, (k, tt))) ws)) (fact 𝓤 (r ≡ postOf l (s .now) k)))
+    called : ent 𝓤 Ensured (fact 𝓤 (r ≡ postOf (l .cells) (s .now) k))
+    called = exE 𝓤 _ (λ ws. snd∗ 𝓤 (sem 𝓤 H A (lasts callee.ended (ν, tt) (l, (s, (k, tt))) ws)) (fact 𝓤 (r ≡ postOf (l .cells) (s .now) k)))
 
 -- the arguments: a reference to the ledger l at (b, o), under the name γ, for the lifetime κ; the slice reference s, for ν; and k
 module _ {M : Type 1} (𝓤 : URA M) (H : Heap 𝓤) (A : Atoms 𝓤) (W : Given 𝓤 H A) (at-mem : Memory → SProp 𝓤) (run : Routine → Fun 𝓤)
@@ -109,7 +109,7 @@ module _ {M : Type 1} (𝓤 : URA M) (H : Heap 𝓤) (A : Atoms 𝓤) (W : Given
   left l′ = ‵ (fobs γ (Code l′)) ∷ ‵ (Borrow κ b o γ) ∷ ‵ (flft κ q) ∷ token ∷ ‵ Slice ∷ []
 
   -- the last step: the contract, from what `post` ensures
-  exits : (r : Answer) → r ≡ postOf l (s .now) k → r .number < 2 ^ 8 → ent 𝓤 (⋆ 𝓤 H A (left (r .ledger))) (Post (vint w8 (r .number)))
+  exits : (r : Answer) → r ≡ postOf (l .cells) (s .now) k → r .number < 2 ^ 8 → ent 𝓤 (⋆ 𝓤 H A (left (r .ledger))) (Post (vint w8 (r .number)))
   exits r e fits =
       qed W (left (r .ledger)) ∵
       suffices ! _ (ends-at 𝓤 H A this.ended stayed (this.clauses 𝓤 H A at-mem run) W bound
@@ -164,7 +164,7 @@ module _ {M : Type 1} (𝓤 : URA M) (H : Heap 𝓤) (A : Atoms 𝓤) (W : Given
         (and-then ! (load ! (from ! (stop !)) (look ! 12 refl)) (and-then ! (load ! (from ! (stop !)) (look ! 10 refl)) (no-more !)))) (λ w.
         use1 W (later (some (λ (r : Answer). (token ⊛ ‵ (answers.the-row .own r (w ∷ []))) ⊛ raw (Ensured 𝓤 H A at-mem run ν l s k r)))) (id⊢ 𝓤 _) $
         await ! tt $ pick ! (λ r. split ! $ move ! (1 ∷ []) $
-        use1 W (raw (fact 𝓤 (r ≡ postOf l (s .now) k))) (called 𝓤 H A at-mem run ν l s k r) $ heard ! (r ≡ postOf l (s .now) k) (λ e.
+        use1 W (raw (fact 𝓤 (r ≡ postOf (l .cells) (s .now) k))) (called 𝓤 H A at-mem run ν l s k r) $ heard ! (r ≡ postOf (l .cells) (s .now) k) (λ e.
         split ! $ move ! (1 ∷ []) $ peeks ! answers.the-row (Is answers.the-row) (shows 𝓤 H A answers.the-row) r (w ∷ []) (λ r-is. drop ! $
         -- [token; the slice; the ledger's cell; the open borrow; obs; auth; _5; …; room for _4; …; _3; …; _2; …; _1; …; room for _0; …]
         land ! (from ! (stop !)) (init ! 8 refl (answer-typed 𝓤 H A W r w r-is .0)) $

@@ -1,8 +1,7 @@
--- `load`: the loop's invariant is that the columns hold the rows passed, the measure how many are left. Assumes nothing.
+-- `load`: the loop's invariant is that the cells hold the rows passed, the measure how many are left. Assumes nothing.
 use Prim.Native.Nat.{_-_}
 use mathlib.Core.Path.{_≡_}
-use Rattle.ledger.specs.Ledgers.{columns}
-use Rattle.ledger.specs.Pages.{ledgerIn}
+use Rattle.ledger.specs.Pages.{cellsIn}
 use borrow.Author.Needs.{needs}
 use borrow.Author.Tests.{not-true, not-false}
 use Rattle.ledger.proofs.PageSteps as steps
@@ -10,10 +9,10 @@ use Rattle.ledger.proofs.page.load.Statement.{statement}
 use Rattle.ledger.proofs.page.load.Tie as tie
 
 abbrev Inv-loop : tie.InvT-loop
-Inv-loop page n keys₀ lives₀ readings₀ i₀ keys lives readings i = steps.Loaded page n keys lives readings i
+Inv-loop page n cells₀ i₀ cells i = steps.Loaded page n cells i
 
 abbrev μ-loop : tie.MeasureT-loop
-μ-loop page n keys₀ lives₀ readings₀ i₀ keys lives readings i = n - i
+μ-loop page n cells₀ i₀ cells i = n - i
 
 -- a head that is not kept
 returns : tie.Need-returns Inv-loop μ-loop
@@ -25,22 +24,21 @@ loop-holds c = steps.loaded-none _ _ _ (c .before .before .is-headed .ensures) (
 
 loop-again : tie.Need-loop-again Inv-loop μ-loop
 loop-again c =
-    let l = c .before .before .before .before in
-    steps.loaded-more _ _ _ _ _ _ (l .loop .inv) (c .before .before .before .loop-test .taken) _ _ _
-    (c .before .before .read4 .ensures) (c .before .read8 .ensures) (c .read42 .ensures)
+    let b = c .before .before in
+    let l = b .before .before .before .before in
+    rw (c .put-row .ensures) (steps.loaded-more _ _ _ _ (l .loop .inv) (b .before .before .before .loop-test .taken) _
+    (λ p. record { key = b .before .before .read4 .ensures p; life = b .before .read8 .ensures p; reading = b .read42 .ensures p }))
 
 -- the whole ledger was read
 read : (c : tie.After-loop Inv-loop μ-loop)
-    → let w = c .before .loop in
-    columns (c .before .before .read2 .result) (w .keys) (w .lives) (w .readings)
-    ≡ ledgerIn (c .before .before .before .before .before .before .args .page .now)
-read c = steps.loaded-all _ _ _ _ _ _ (c .before .loop .inv) (c .loop-test .left) (c .before .before .read2 .ensures)
+    → c .before .loop .cells ≡ cellsIn (c .before .before .before .before .before .before .args .page .now)
+read c = steps.loaded-all _ _ _ _ (c .before .loop .inv) (c .loop-test .left) (c .before .before .read2 .ensures)
 
 -- rules that are not kept
 returns-2 : tie.Need-returns-2 Inv-loop μ-loop
 returns-2 c =
     let k = c .before .before in
-    let e = k .before .before .before .before in
+    let e = k .before .before in
     let r = e .before .before in
     steps.load-broken _ _ (r .before .before .is-headed .ensures) (not-false _ (r .before .if1 .left)) _ (read e) _
     (k .is-kept .ensures) (not-true _ (c .before .if2 .taken)) _ (c .broken2 .ensures)
@@ -48,7 +46,7 @@ returns-2 c =
 returns-3 : tie.Need-returns-3 Inv-loop μ-loop
 returns-3 c =
     let k = c .before in
-    let e = k .before .before .before .before in
+    let e = k .before .before in
     let r = e .before .before in
     steps.load-kept _ _ (r .before .before .is-headed .ensures) (not-false _ (r .before .if1 .left)) _ (read e) _
     (k .is-kept .ensures) (not-false _ (c .if2 .left))
@@ -62,6 +60,7 @@ load-spec =
     returns
     (λ c κs. search needs)
     (λ c. search needs)
+    (λ c. search needs)
     loop-holds
     (λ c. search needs)
     (λ c. search needs)
@@ -71,14 +70,11 @@ load-spec =
     (λ c. search needs)
     (λ c κs. search needs)
     (λ c. search needs)
+    (λ c κs. search needs)
     (λ c. search needs)
     (λ c κs. search needs)
     (λ c. search needs)
-    (λ c. search needs)
-    (λ c. search needs)
     (λ c κs. search needs)
-    (λ c. search needs)
-    (λ c. search needs)
     (λ c. search needs)
     (λ c. search needs)
     loop-again

@@ -4,45 +4,68 @@ use Prim.Native.Nat.{_-_}
 use native.Mathlib.Omega.{arith}
 use borrow.Author.Needs.{needs}
 use borrow.Author.Tests.{not-true, not-false}
-use Rattle.ledger.specs.Ledgers.{columns}
 use Rattle.ledger.proofs.LoopSteps as steps
 use Rattle.ledger.proofs.post.has_room.Statement.{statement}
 use Rattle.ledger.proofs.post.has_room.Tie as tie
 
 abbrev Inv-loop : tie.InvT-loop
-Inv-loop count keys lives readings s first at n counted₀ rows₀ i₀ counted rows i =
-    steps.CountLoop (columns count keys lives readings) s first at n counted rows i
+Inv-loop cells s first at n rows₀ counted₀ i₀ rows counted i = steps.CountLoop cells s first at n counted rows i
 
 abbrev μ-loop : tie.MeasureT-loop
-μ-loop count keys lives readings s first at n counted₀ rows₀ i₀ counted rows i = n - i
+μ-loop cells s first at n rows₀ counted₀ i₀ rows counted i = n - i
+
+-- few entries
+returns : tie.Need-returns Inv-loop μ-loop
+returns c = steps.count-few _ _ _ _ _ (omega (arith, c .before .count-of .ensures, c .if1 .taken))
+
+loop-holds : tie.Need-loop-holds Inv-loop μ-loop
+loop-holds c = rw (c .before .count-of .ensures) (steps.count-none _ _ _ _ _ (c .before .before .before .pre .0))
+
+-- one row more at most
+add-rows : tie.Need-add-rows Inv-loop μ-loop
+add-rows c =
+    let t = c .before .before .before .before .before in
+    let l = t .before in
+    record {
+      fits = omega (
+        arith,
+        l .before .before .before .before .pre .0 .few,
+        t .loop-test .taken,
+        l .before .before .before .before .pre .2,
+        steps.count-fits _ _ _ _ _ _ _ _ (l .loop .inv) _ _ (c .new-rows .ensures),
+      );
+    }
+
+-- an entry more, of a TYPE that is new or has been seen
+loop-again : tie.Need-loop-again Inv-loop μ-loop
+loop-again c =
+    let r = c .before .before in
+    let t = r .before in
+    let e = r .counter .ensures in
+    ⊎-elim
+    (λ w. rw (w .3, w .4) (steps.count-new _ _ _ _ _ _ _ _ (t .before .loop .inv) _ _ _ (λ p. e p .typ, λ p. e p .reference, λ p. e p .count)
+    (t .loop-test .taken) (search needs) (not-true _ (w .0 .taken)) _ (w .2 .ensures)))
+    (λ w. rw (w .1, w .2) (steps.count-seen _ _ _ _ _ _ _ _ (t .before .loop .inv) _ _ _ (λ p. e p .typ, λ p. e p .reference, λ p. e p .count)
+    (t .loop-test .taken) (search needs) (not-false _ (w .0 .left))))
+    (c .if2 .came)
 
 pub has-room-spec : {M : Type 1} → statement M
 has-room-spec =
     tie.close
     (tie.spec Inv-loop μ-loop
+    (λ c κs. search needs)
     (λ c. search needs)
-    (λ c. steps.count-few _ _ _ _ _ (c .before .before .pre .0) (c .if1 .taken))
-    (λ c. steps.count-none _ _ _ _ _ (c .before .before .pre .0))
+    returns
+    loop-holds
     (λ c κs. search needs)
     (λ c. search needs)
     (λ c. search needs)
     (λ c. search needs)
     (λ c. search needs)
     (λ c. search needs)
-    (λ c κs. search needs)
-    (λ c. let t = c .before .before .before .before .before in
-    omega (
-      arith,
-      t .before .before .before .before .before,
-      steps.count-fits _ _ _ _ _ _ _ _ (t .before .before .loop .inv) _ _ (c .before .held .ensures),
-    ))
+    (λ c κs. c .before .before .before .before .before .before .before .before .before .pre .0)
+    add-rows
     (λ c. search needs)
     (λ c. search needs)
-    (λ c. let t = c .before .before in
-    ⊎-elim
-    (λ w. rw (w .4, w .5) (steps.count-new _ _ _ _ _ _ _ _ (t .before .before .loop .inv) _ (t .counter .ensures) (t .before .loop-test .taken)
-    (search needs) (not-true _ (w .0 .taken)) _ (w .2 .ensures)))
-    (λ w. rw (w .1, w .2) (steps.count-seen _ _ _ _ _ _ _ _ (t .before .before .loop .inv) _ (t .counter .ensures) (t .before .loop-test .taken)
-    (search needs) (not-false _ (w .0 .left))))
-    (c .if2 .came))
+    loop-again
     (λ c. steps.count-end _ _ _ _ _ _ _ _ (c .before .loop .inv) (c .loop-test .left)))

@@ -18,14 +18,14 @@ returns c = post-other _ (c .before .before .before .pre .0) _ _ (sym (c .before
 
 post-report-requires : tie.Need-post-report-requires
 post-report-requires c κs =
-    let e = c .before .before .before .before .before in
+    let e = c .before .before in
     let z = e .before .before .before in
     (z .pre .0, entries-lie _ _ (statistics e) _ (c .statistics-of .ensures) (z .pre .1))
 
 returns-2 : tie.Need-returns-2
 returns-2 c =
     let r = c .before in
-    let e = r .before .before .before .before .before in
+    let e = r .before .before in
     post-statistics _ (e .before .before .before .pre .0) _ _ (statistics e) _ (r .statistics-of .ensures) _ (c .post-report .ensures)
 
 pub post-record-spec : {M : Type 1} → statement M
@@ -34,6 +34,6 @@ post-record-spec =
     (tie.spec
     (λ c κs. search needs)
     returns
-    (λ c κs. let w = c .before .before .before .before .before .before .before .pre .1 in (w .sid, w .styp))
+    (λ c κs. let w = c .before .before .before .before .pre .1 in (w .sid, w .styp))
     post-report-requires
     returns-2)

@@ -54,7 +54,7 @@ slice-aggregate c = sym (length-take-le _ _ (fits (c .before .before)))
 
 run-front-requires : tie.Need-run-front-requires
 run-front-requires c κs =
-    let keep = c .before .before .before .before .before .before .before .before .before .before .before .before .before .before in
+    let keep = c .before .before .before .before .before .before .before .before .before .before .before in
     keep .before .before .before .before .before .pre .1
 
 -- the read failed
@@ -66,7 +66,7 @@ returns c =
 -- octets came
 returns-2 : tie.Need-returns-2
 returns-2 c =
-    let input = c .before .before .before .before .before .before .before in
+    let input = c .before .before .before .before in
     let read = input .before .before .before .before in
     let keep = read .before .before .before .before in
     let z = keep .before .before .before .before .before in

@@ -1,6 +1,6 @@
--- `print`: the ledger of a whole feed has 256 rows at most. Assumes nothing.
+-- `print`: the ledger of a whole feed keeps the rules. Assumes nothing.
 use borrow.Author.Needs.{needs}
-use Rattle.wear.proofs.TurnLaws.{worn-few}
+use Rattle.wear.proofs.TurnLaws.{worn-kept}
 use Rattle.wear.proofs.panel.print.Statement.{statement}
 use Rattle.wear.proofs.panel.print.Tie as tie
 
@@ -11,7 +11,7 @@ print-spec =
     (λ c. search needs)
     (λ c. search needs)
     (λ c κs. search needs)
-    (λ c κs. worn-few _ _ (c .before .before .before .before .before .before .before .before .pre))
+    (λ c κs. worn-kept _ _ (c .before .before .before .before .before .before .before .before .pre))
     (λ c. search needs)
     (λ c κs. search needs)
     (λ c. search needs)
