@@ -7,7 +7,8 @@ use lib.Dec.{leb}
 use borrow.Author.Tests.{leb-false}
 use Rattle.layouts.specs.Formats.{Answer, refused, got, Format}
 use Rattle.layouts.specs.Categories.{Category}
-use Rattle.layouts.proofs.Before.{SameBefore, item-before}
+use Rattle.layouts.specs.Alike.{SameBefore}
+use Rattle.layouts.proofs.Before.{item-before}
 use Rattle.blocks.specs.Records.{Rec}
 use Rattle.blocks.specs.Blocks.{Block, with, firstAt, recordsAt}
 use Rattle.blocks.specs.Offsets.{specsAt, itemsAt, recordAt}

@@ -21,7 +21,7 @@ use Rattle.layouts.proofs.Windows.{window, window-long}
 use Rattle.blocks.specs.Specification.{zeros, putMarks}
 use Rattle.blocks.specs.Records.{Rec, putRec}
 use Rattle.blocks.specs.Headers.{headerOf}
-use Rattle.blocks.specs.Blocks.{Block, wrong, all, with, blockFrom, blockOf, putRecs, putBlock}
+use Rattle.blocks.specs.Blocks.{Block, wrong, all, with, blockFrom, blockOf, putRecs, headed, putBlock}
 use Rattle.blocks.specs.declared.header.Head.{Head}
 use Rattle.blocks.proofs.HeaderLaws.{header-cases, header-fits}
 use Rattle.blocks.proofs.GoodRecords.{good, allGood}
@@ -111,9 +111,6 @@ category-number cat = go (eqb cat 23) (eqb cat 65) (eqb cat 242) (eqb-true cat 2
     go false false false f g h = refl
 
 -- A block of any octets behind a header that has their number: LEN, and what is read.
-abbrev pub headed : ℕ → List ℕ → List ℕ
-headed cat body = cat ∷ (octets 2 (3 + length body) ++ body)
-
 module _ (cat : ℕ) (body t : List ℕ) (fit : 3 + length body < 65536) where
   abbrev size : ℕ
   size = 3 + length body

@@ -15,7 +15,8 @@ use Rattle.layouts.specs.declared.ends.End.the-variants.{At, Refused}
 use Rattle.layouts.specs.declared.form.Form.{Form}
 use Rattle.layouts.proofs.Answers.{through}
 use Rattle.layouts.proofs.Alike.{item-alike-at}
-use Rattle.layouts.proofs.Before.{SameBefore, run-before}
+use Rattle.layouts.specs.Alike.{SameBefore}
+use Rattle.layouts.proofs.Before.{run-before}
 use Rattle.blocks.specs.Records.{formats}
 use Rattle.blocks.specs.Offsets.{itemsAt}
 use Rattle.blocks.specs.Alike.{IfGot, AllAlikeAt}

@@ -11,12 +11,12 @@ use Rattle.octets.specs.Numbers.{Octets}
 use Rattle.layouts.specs.Formats.{Answer, refused, got}
 use Rattle.layouts.specs.Categories.{Category, category, known}
 use Rattle.blocks.specs.Records.{Rec, layoutOf, putItems}
-use Rattle.blocks.specs.Blocks.{Block, wrong, all, with, recordsAt, blockOf}
+use Rattle.blocks.specs.Blocks.{Block, wrong, all, with, recordsAt, blockOf, headed}
 use Rattle.blocks.proofs.Suffixes.{recordOf, first, records, records-step, records-none}
 use Rattle.blocks.proofs.WindowLaws.{records-whole}
 use Rattle.blocks.proofs.RecordLaws.{record-any, record-held}
 use Rattle.blocks.proofs.RecordTheorems.{normal-short, rest-octets, second-zero}
-use Rattle.blocks.proofs.BlockLaws.{record-some, category-number, headed, headed-read}
+use Rattle.blocks.proofs.BlockLaws.{record-some, category-number, headed-read}
 
 record-behind : (c : Category) (u v y : List ℕ) (r : Rec) → Octets u → recordOf c u ≡ got r v → recordOf c (u ++ y) ≡ got r (v ++ y)
 record-behind c u v y r o h =
@@ -103,18 +103,21 @@ whole-reads cat n y ts o e k len l =
 
 -- A block in which one record, behind whole records a, has a second specification octet of zero has the records of the block without it.
 module _ (cat : ℕ) (k : known cat ≡ true) (two : 2 ≤ category cat .most) (a b : List ℕ) (x : ℕ) (o : Octets a) (o' : Octets (x ∷ b))
-    (even : odd x ≡ false) (n len : ℕ) (rs ts : List Rec) (e : records n len (category cat) a ≡ all cat rs)
-    (f : records n len (category cat) (x ∷ b) ≡ all cat ts) (fit : 3 + length (a ++ ((x + 1) ∷ 0 ∷ b)) < 65536) (t : List ℕ) where
+    (even : odd x ≡ false) (n : ℕ) (rs ts : List Rec) (e : recordsAt a (length a) (category cat) n 0 ≡ all cat rs)
+    (f : recordsAt (x ∷ b) (length (x ∷ b)) (category cat) n 0 ≡ all cat ts) (fit : 3 + length (a ++ ((x + 1) ∷ 0 ∷ b)) < 65536) (t : List ℕ) where
   pub second-records : (blockOf (headed cat (a ++ ((x + 1) ∷ 0 ∷ b)) ++ t) ≡ all cat (rs ++ ts)) × (blockOf (headed cat (a ++ (x ∷ b)) ++ t) ≡ all cat (rs ++ ts))
   second-records =
       let c = category cat in
       let same = category-number cat in
+      let m = length a + length (x ∷ b) in
+      let e' = whole-reads cat n a rs o e m 0 (omega arith) in
+      let f' = whole-reads cat n (x ∷ b) ts o' f m 0 (omega arith) in
       let longer = a ++ ((x + 1) ∷ 0 ∷ b) in
       let plain = a ++ (x ∷ b) in
       let l : length longer ≡ suc (length plain) = rw (length-append, length-append) (omega arith) in
       let some : 0 < length plain = rw length-append (omega arith) in
-      let one = reads-join c cat same n len (3 + length longer) ((x + 1) ∷ 0 ∷ b) ts (reads-second c cat same n len (3 + length longer) x b ts two even o' f) a rs o e in
-      let other = reads-join c cat same n len (3 + length plain) (x ∷ b) ts (reads-any c cat same n len (3 + length plain) (x ∷ b) ts o' f) a rs o e in (
+      let one = reads-join c cat same m 0 (3 + length longer) ((x + 1) ∷ 0 ∷ b) ts (reads-second c cat same m 0 (3 + length longer) x b ts two even o' f') a rs o e' in
+      let other = reads-join c cat same m 0 (3 + length plain) (x ∷ b) ts (reads-any c cat same m 0 (3 + length plain) (x ∷ b) ts o' f') a rs o e' in (
         headed-read cat longer t fit k (omega arith) ∙ one (3 + length longer) (omega arith),
         headed-read cat plain t (omega arith) k some ∙ other (3 + length plain) (omega arith),
       )

@@ -1,9 +1,9 @@
 pub mod HeaderLaws
 pub mod Suffixes
+pub mod WindowLaws
 pub mod GoodRecords
 pub mod RecordLaws
 pub mod RecordTheorems
-pub mod WindowLaws
 pub mod BlockLaws
 pub mod JoinLaws
 pub mod BeforeLaws

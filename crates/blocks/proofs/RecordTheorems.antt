@@ -1,6 +1,6 @@
 -- The theorems on one record: it is read back as written, its normal form is never longer, and its spare bits change nothing.
 -- Assumes nothing.
-use mathlib.Core.Path.{_≡_, refl, ap}
+use mathlib.Core.Path.{_≡_, refl, sym, ap, _∙_}
 use mathlib.Core.Bool.{true, false}
 use mathlib.Core.List.{List, [], _∷_, _++_, append-assoc}
 use Prim.Native.Nat.{ℕ, zero, suc, _+_, _-_, _/_, _%_, _≤_}
@@ -8,16 +8,20 @@ use native.Mathlib.Omega.{arith}
 use borrow.Author.Tests.{eqb-true, eqb-false, eq-eqb}
 use lib.Dec.{eqb}
 use lib.ListN.{length, getD, drop, length-append}
+use lib.Seq.{take-length}
 use Rattle.octets.specs.Choice.{odd}
 use Rattle.octets.specs.Numbers.{Octets}
 use Rattle.octets.proofs.Cases.{both}
 use Rattle.layouts.specs.Formats.{got, Format, Trace}
 use Rattle.layouts.specs.Categories.{Category}
 use Rattle.layouts.proofs.Formats.{put-length}
+use Rattle.layouts.proofs.Windows.{behind, behind-got}
 use Rattle.blocks.specs.Specification.{putMarks}
 use Rattle.blocks.specs.Records.{Rec, layoutOf, putItems, putRec}
+use Rattle.blocks.specs.Offsets.{recordAt}
 use Rattle.blocks.proofs.GoodRecords.{good}
 use Rattle.blocks.proofs.Suffixes.{specs, recordOf}
+use Rattle.blocks.proofs.WindowLaws.{record-at}
 use Rattle.blocks.proofs.RecordLaws.{Octets-tail, specs-put, record-any, record-held}
 
 pub good-long : (c : Category) (r : Rec) → good c r ≡ true → length (r .marks) ≡ suc (c .most - 1)
@@ -33,14 +37,28 @@ read-back c r h t =
     rw (append-assoc (putMarks (r .marks)) (putItems (layoutOf c (r .marks)) (r .items) []) t)
     (record-any c r (putMarks (r .marks)) (λ q. specs-put (c .most - 1) (r .marks) q (good-long c r h)) h [] t)
 
+-- the record of octets from their first on, and the octets behind it
+record-whole : (c : Category) (s : List ℕ) → recordOf c s ≡ behind s (length s) (recordAt s (length s) c 0)
+record-whole c s = rw take-length at (record-at s (length s) (omega arith) c 0)
+
+record-lands : (c : Category) (s : List ℕ) (r : Rec) (t : List ℕ) → recordOf c s ≡ got r t
+    → (q : ℕ) × (recordAt s (length s) c 0 ≡ got r q) × (drop q s ≡ t)
+record-lands c s r t h =
+    let (q, e, rest) = behind-got s (length s) (recordAt s (length s) c 0) r t (sym (record-whole c s) ∙ h) in
+    (q, e, rw take-length at rest)
+
 -- Spare bits: the octets of an accepted record are its specification and its values with some spare bits; with any others
--- they are the same record.
-pub spare-bits : (c : Category) (s : List ℕ) (r : Rec) (t : List ℕ) → Octets s → recordOf c s ≡ got r t
-    → (spec : List ℕ) × ((xs : List (List ℕ)) × (s ≡ spec ++ (putItems (layoutOf c (r .marks)) (r .items) xs ++ t)))
-    × ((xs : List (List ℕ)) → recordOf c (spec ++ (putItems (layoutOf c (r .marks)) (r .items) xs ++ t)) ≡ got r t)
-spare-bits c s r t o h =
-    let w = record-held c s r t o h in
-    (w .spec, (w .bits, w .is), λ xs. record-any c r (w .spec) (w .reads) (w .fine) xs t)
+-- they are the same record, and the same octets are behind it.
+pub spare-bits : (c : Category) (s : List ℕ) (r : Rec) (q : ℕ) → Octets s → recordAt s (length s) c 0 ≡ got r q
+    → (spec : List ℕ) × ((xs : List (List ℕ)) × (s ≡ spec ++ (putItems (layoutOf c (r .marks)) (r .items) xs ++ drop q s)))
+    × ((xs : List (List ℕ)) (t : List ℕ) → t ≡ spec ++ (putItems (layoutOf c (r .marks)) (r .items) xs ++ drop q s)
+    → (p : ℕ) × (recordAt t (length t) c 0 ≡ got r p) × (drop p t ≡ drop q s))
+spare-bits c s r q o h =
+    let w = record-held c s r (drop q s) o (record-whole c s ∙ rw (h, take-length)) in (
+      w .spec,
+      (w .bits, w .is),
+      λ xs t e. record-lands c t r (drop q s) (ap (recordOf c) e ∙ record-any c r (w .spec) (w .reads) (w .fine) xs (drop q s)),
+    )
 
 -- how many octets does not depend on the spare bits
 pub putItems-length : (fs : List Format) (trs : List Trace) (xs ys : List (List ℕ))

@@ -10,7 +10,7 @@ use lib.ListN.{length, getD}
 use Rattle.octets.specs.Numbers.{Octets, number}
 use Rattle.layouts.specs.Formats.{Answer, refused, got}
 use Rattle.layouts.specs.Categories.{Category, category}
-use Rattle.layouts.proofs.Before.{SameBefore}
+use Rattle.layouts.specs.Alike.{SameBefore}
 use Rattle.blocks.specs.Headers.{headerOf}
 use Rattle.blocks.specs.Records.{Rec, layoutOf}
 use Rattle.blocks.specs.Blocks.{with, firstAt, recordsAt, blockFrom, blockOf}

@@ -48,6 +48,10 @@ unfoldable pub putRecs : Category → List Rec → List ℕ
 putRecs c [] = []
 putRecs c (r ∷ rs) = putRec c r ++ putRecs c rs
 
+-- CAT, and LEN as it is with these octets behind it
+abbrev pub headed : ℕ → List ℕ → List ℕ
+headed cat body = cat ∷ (octets 2 (3 + length body) ++ body)
+
 -- records as a block, in normal form
 unfoldable pub putBlock : ℕ → List Rec → List ℕ
-putBlock cat rs = cat ∷ (octets 2 (3 + length (putRecs (category cat) rs)) ++ putRecs (category cat) rs)
+putBlock cat rs = headed cat (putRecs (category cat) rs)

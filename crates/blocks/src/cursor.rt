@@ -1,7 +1,7 @@
 // One record at a time: the cursor of a block, and one entry of a record.
 ghost use mathlib.Core.Path.{_≡_};
 ghost use mathlib.Core.Bool.{true};
-ghost use Prim.Native.Nat.{_+_, _*_, _-_, _≤_, _<_};
+ghost use Prim.Native.Nat.{_+_, _*_, _≤_, _<_};
 ghost use lib.ListN.{length};
 ghost use Rattle.layouts.specs.Categories.{known};
 ghost use Rattle.blocks.specs.Steps.{takeOf, stepOf, listedStep, stepListed, entryGroupOf, entryIn, entryOf, listedEntry, entryListed};

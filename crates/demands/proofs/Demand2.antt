@@ -4,7 +4,6 @@ use mathlib.Core.Path.{_≡_, sym, ap, _∙_, subst}
 use mathlib.Core.Bool.{true, false}
 use mathlib.Core.List.{List, _∷_, _++_, map}
 use Prim.Native.Nat.{ℕ, _+_, _<_, _≤_}
-use native.Mathlib.Omega.{arith}
 use lib.ListN.{length, getD, take, drop}
 use lib.Seq.{take-at}
 use Rattle.octets.specs.Choice.{odd}
@@ -12,10 +11,11 @@ use Rattle.octets.specs.Numbers.{Octets, number}
 use Rattle.octets.specs.Refusals.{noSuch}
 use Rattle.layouts.specs.Formats.{got}
 use Rattle.layouts.specs.Categories.{Category, category, known, entriesForm}
-use Rattle.layouts.proofs.Before.{SameBefore}
+use Rattle.layouts.specs.Alike.{SameBefore}
 use Rattle.blocks.specs.Headers.{headerOf}
 use Rattle.blocks.specs.Records.{Rec, layoutOf, putItems}
-use Rattle.blocks.specs.Blocks.{all, recordsAt, blockOf}
+use Rattle.blocks.specs.Blocks.{all, recordsAt, blockOf, headed}
+use Rattle.blocks.specs.Offsets.{recordAt}
 use Rattle.blocks.specs.Walks.{readOf}
 use Rattle.blocks.specs.Steps.{stepOf, entryIn, entryOf}
 use Rattle.blocks.specs.Meaning.{recOf}
@@ -26,10 +26,8 @@ use Rattle.blocks.specs.declared.record.Record.{Record}
 use Rattle.blocks.specs.declared.walk.Reading.{Reading}
 use Rattle.blocks.specs.declared.cursor.Step.{Step}
 use Rattle.blocks.specs.declared.cursor.Found.{Found}
-use Rattle.blocks.proofs.Suffixes.{recordOf}
 use Rattle.blocks.proofs.RecordTheorems.{spare-bits}
-use Rattle.blocks.proofs.BlockLaws.{headed}
-use Rattle.blocks.proofs.JoinLaws.{whole-reads, second-block}
+use Rattle.blocks.proofs.JoinLaws.{second-block}
 use Rattle.blocks.proofs.BoundaryLaws.{visited, step-end}
 use Rattle.blocks.proofs.SameAnswers.{read-alike, block-alike, step-alike, entry-alike, read-after-len, block-after-len, step-after-len, entry-after-len}
 use Rattle.octets.specs.Outcomes.{puts}
@@ -158,14 +156,12 @@ pub second-octet : (cat : ℕ) → known cat ≡ true → 2 ≤ category cat .mo
     → recordsAt (x ∷ b) (length (x ∷ b)) (category cat) n 0 ≡ all cat ts
     → 3 + length (a ++ ((x + 1) ∷ 0 ∷ b)) < 65536
     → (t : List ℕ) → rewriteOf (headed cat (a ++ ((x + 1) ∷ 0 ∷ b)) ++ t) ≡ rewriteOf (headed cat (a ++ (x ∷ b)) ++ t)
-second-octet cat k two a b x o o' even n rs ts e f fit t =
-    let m = length a + length (x ∷ b) in
-    rewrite-same _ _
-    (second-block cat k two a b x o o' even m 0 rs ts
-    (whole-reads cat n a rs o e m 0 (omega arith)) (whole-reads cat n (x ∷ b) ts o' f m 0 (omega arith)) fit t)
+second-octet cat k two a b x o o' even n rs ts e f fit t = rewrite-same _ _ (second-block cat k two a b x o o' even n rs ts e f fit t)
 
--- An accepted record is its specification and its values with some spare bits; with any others it is the same record.
-pub any-spare-bits : (c : Category) (s : List ℕ) (r : Rec) (t : List ℕ) → Octets s → recordOf c s ≡ got r t
-    → (spec : List ℕ) × ((xs : List (List ℕ)) × (s ≡ spec ++ (putItems (layoutOf c (r .marks)) (r .items) xs ++ t)))
-    × ((xs : List (List ℕ)) → recordOf c (spec ++ (putItems (layoutOf c (r .marks)) (r .items) xs ++ t)) ≡ got r t)
+-- An accepted record is its specification and its values with some spare bits; with any others it is the same record, and the same octets are
+-- behind it.
+pub any-spare-bits : (c : Category) (s : List ℕ) (r : Rec) (q : ℕ) → Octets s → recordAt s (length s) c 0 ≡ got r q
+    → (spec : List ℕ) × ((xs : List (List ℕ)) × (s ≡ spec ++ (putItems (layoutOf c (r .marks)) (r .items) xs ++ drop q s)))
+    × ((xs : List (List ℕ)) (t : List ℕ) → t ≡ spec ++ (putItems (layoutOf c (r .marks)) (r .items) xs ++ drop q s)
+    → (p : ℕ) × (recordAt t (length t) c 0 ≡ got r p) × (drop p t ≡ drop q s))
 any-spare-bits = spare-bits

@@ -15,14 +15,13 @@ use Rattle.octets.proofs.Parts.{Octets-drop}
 use Rattle.layouts.specs.Categories.{category, known}
 use Rattle.blocks.specs.Headers.{headerOf}
 use Rattle.blocks.specs.Records.{Rec}
-use Rattle.blocks.specs.Blocks.{all, blockOf}
-use Rattle.blocks.proofs.Suffixes.{records}
+use Rattle.blocks.specs.Blocks.{all, recordsAt, blockOf, headed}
 use Rattle.blocks.specs.Walks.{answerOf, readOf}
 use Rattle.blocks.specs.Boundaries.{Joined}
 use Rattle.blocks.specs.declared.header.Head.{Head}
 use Rattle.blocks.specs.declared.walk.Reading.{Reading}
 use Rattle.blocks.proofs.WalkSteps.{by-known}
-use Rattle.blocks.proofs.BlockLaws.{headed, headed-len}
+use Rattle.blocks.proofs.BlockLaws.{headed-len}
 use Rattle.blocks.proofs.JoinLaws.{second-records}
 use Rattle.blocks.proofs.ListedLaws.{read-block, read-listed}
 use Rattle.blocks.proofs.BoundaryLaws.{read-filled}
@@ -86,8 +85,8 @@ module _ (s : List ℕ) (o : Octets s) (l : List ℕ) (o' : Octets l) (out : Lis
 
 -- A block in which one record, behind whole records a, has a second specification octet of zero, and the block without it
 module _ (cat : ℕ) (k : known cat ≡ true) (two : 2 ≤ category cat .most) (a b : List ℕ) (x : ℕ) (o : Octets a) (o' : Octets (x ∷ b))
-    (even : odd x ≡ false) (n len : ℕ) (rs ts : List Rec) (e : records n len (category cat) a ≡ all cat rs)
-    (f : records n len (category cat) (x ∷ b) ≡ all cat ts) (fit : 3 + length (a ++ ((x + 1) ∷ 0 ∷ b)) < 65536) (t : List ℕ) (ot : Octets t) where
+    (even : odd x ≡ false) (n : ℕ) (rs ts : List Rec) (e : recordsAt a (length a) (category cat) n 0 ≡ all cat rs)
+    (f : recordsAt (x ∷ b) (length (x ∷ b)) (category cat) n 0 ≡ all cat ts) (fit : 3 + length (a ++ ((x + 1) ∷ 0 ∷ b)) < 65536) (t : List ℕ) (ot : Octets t) where
   abbrev pub longer : List ℕ
   longer = headed cat (a ++ ((x + 1) ∷ 0 ∷ b)) ++ t
 
@@ -110,7 +109,7 @@ module _ (cat : ℕ) (k : known cat ≡ true) (two : 2 ≤ category cat .most) (
 
   -- as many records, up to LEN
   abbrev both : (blockOf longer ≡ all cat (rs ++ ts)) × (blockOf plain ≡ all cat (rs ++ ts))
-  both = second-records cat k two a b x o o' even n len rs ts e f fit t
+  both = second-records cat k two a b x o o' even n rs ts e f fit t
 
   read-up : (body : List ℕ) → 3 + length body < 65536 → blockOf (headed cat body ++ t) ≡ all cat (rs ++ ts)
       → readOf (headed cat body ++ t) ≡ Reading.Accepted (3 + length body) (length (rs ++ ts))

@@ -16,14 +16,13 @@ use Rattle.octets.specs.declared.output.Written.{Written}
 use Rattle.layouts.specs.Tables.{counter}
 use Rattle.layouts.specs.Categories.{category, known, entriesForm}
 use Rattle.layouts.specs.declared.form.Form.{Form}
-use Rattle.layouts.proofs.Before.{SameBefore}
+use Rattle.layouts.specs.Alike.{SameBefore}
 use Rattle.items.specs.Typed.{settled, counterOf}
 use Rattle.items.specs.declared.typed.Counter.{Counter}
 use Rattle.items.specs.declared.typed.Place.{Place}
 use Rattle.blocks.specs.Headers.{headerOf}
 use Rattle.blocks.specs.Records.{Rec}
-use Rattle.blocks.specs.Blocks.{Block, wrong, all, blockOf}
-use Rattle.blocks.proofs.Suffixes.{records}
+use Rattle.blocks.specs.Blocks.{Block, wrong, all, recordsAt, blockOf, headed}
 use Rattle.blocks.specs.Alike.{RecordsAlikeAt}
 use Rattle.blocks.specs.Forms.{formNumber}
 use Rattle.blocks.specs.Steps.{stepOf, entryValues, entryIn, entryOf}
@@ -36,7 +35,6 @@ use Rattle.blocks.specs.declared.walk.Reading.{Reading}
 use Rattle.blocks.specs.declared.cursor.Step.{Step}
 use Rattle.blocks.specs.declared.cursor.Found.{Found}
 use Rattle.blocks.proofs.ListedLaws.{read-block, step-listed, entry-listed}
-use Rattle.blocks.proofs.BlockLaws.{headed}
 use Rattle.blocks.proofs.JoinLaws.{second-block}
 use Rattle.blocks.proofs.StepLaws.{entry-taken, entry-counter}
 use Rattle.blocks.proofs.SameAnswers.{block-alike, block-after-len}
@@ -231,11 +229,11 @@ rewritten-post s o l o' out n h = same-post s out o (rewritten-octets s o l o' o
 
 -- A second specification octet of zero, in a record behind whole records a, changes no post.
 module _ (cat : ℕ) (known : known cat ≡ true) (two : 2 ≤ category cat .most) (a b : List ℕ) (x : ℕ) (o : Octets a) (o' : Octets (x ∷ b))
-    (even : odd x ≡ false) (n len : ℕ) (rs ts : List Rec) (e : records n len (category cat) a ≡ all cat rs)
-    (f : records n len (category cat) (x ∷ b) ≡ all cat ts) (fit : 3 + length (a ++ ((x + 1) ∷ 0 ∷ b)) < 65536) (t : List ℕ) (ot : Octets t) where
+    (even : odd x ≡ false) (n : ℕ) (rs ts : List Rec) (e : recordsAt a (length a) (category cat) n 0 ≡ all cat rs)
+    (f : recordsAt (x ∷ b) (length (x ∷ b)) (category cat) n 0 ≡ all cat ts) (fit : 3 + length (a ++ ((x + 1) ∷ 0 ∷ b)) < 65536) (t : List ℕ) (ot : Octets t) where
   pub second-post : (l : Ledger) (k : ℕ) (r q : Answer) → Posts l (headed cat (a ++ ((x + 1) ∷ 0 ∷ b)) ++ t) k r
       → Posts l (headed cat (a ++ (x ∷ b)) ++ t) k q → r ≡ q
   second-post =
-      same-post _ _ (longer-octets cat known two a b x o o' even n len rs ts e f fit t ot)
-      (plain-octets cat known two a b x o o' even n len rs ts e f fit t ot)
-      (second-block cat known two a b x o o' even n len rs ts e f fit t)
+      same-post _ _ (longer-octets cat known two a b x o o' even n rs ts e f fit t ot)
+      (plain-octets cat known two a b x o o' even n rs ts e f fit t ot)
+      (second-block cat known two a b x o o' even n rs ts e f fit t)

@@ -12,7 +12,7 @@ use denote.Enum.Declared.{Record, declared, tagOf}
 use types.Run.{OneOf}
 use Rattle.octets.specs.Choice.{pick, when}
 use Rattle.octets.specs.Refusals.{pastLast}
-use Rattle.layouts.specs.Groups.{value, values, fits}
+use Rattle.layouts.specs.Groups.{fits}
 use Rattle.layouts.specs.Formats.{done, fitsIn}
 use Rattle.layouts.specs.Layouts.{chain}
 use Rattle.layouts.specs.Tables.{period}

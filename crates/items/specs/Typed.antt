@@ -8,7 +8,7 @@ use Rattle.octets.specs.Choice.{pick, when}
 use Rattle.octets.specs.Numbers.{number, octets}
 use Rattle.octets.specs.Outcomes.{WrittenListed}
 use Rattle.octets.specs.Refusals.{passesEnd, noCount, outOfRange}
-use Rattle.layouts.specs.Groups.{values, merge, Group}
+use Rattle.layouts.specs.Groups.{merge, Group}
 use Rattle.layouts.specs.Formats.{Format, Trace, fitsIn, put}
 use Rattle.layouts.specs.Offsets.{groupsAt}
 use Rattle.layouts.specs.Layouts.{octet, times, format, kindOf}

@@ -12,7 +12,7 @@ ghost use Rattle.layouts.specs.Groups.{values, fits};
 ghost use Rattle.layouts.specs.Formats.{fitsIn, put};
 ghost use Rattle.layouts.specs.Offsets.{itemAt, traceAt, extensionAt, groupsAt};
 ghost use Rattle.layouts.specs.Layouts.{Layout, octet, times, format, kindOf, firstGroup, firstOctets, entryOctets, entryGroup};
-ghost use Rattle.layouts.specs.Ends.{endOf, kindEnd};
+ghost use Rattle.layouts.specs.Ends.{Ends, endOf, kindEnd};
 ghost use Rattle.layouts.specs.Tables.{time, period, counter, version, layout};
 ghost use Rattle.items.specs.Typed.{fieldOf, countedOctets, itemFormat, given, exactFits, itemRefusal, itemOctets, sizeOf, listedSize, sizeListed, counterOf, versionOf, val, sourceOf, serviceOf, timeOf, sdpsOf, stationOf, configurationOf, placeAt};
 use crate::typed::Configuration;
@@ -371,7 +371,7 @@ fn judged(s: &[u8], at: usize, form: Form, end: End) -> End
 // lies before the block's end, that in the slice, and the field is one of a category.
 pub fn pass(s: &[u8], len: usize, at: usize, field: Field) -> End
     requires { ⌜ (at ≤ len) × (len ≤ length (now s)) × (field .1 ≡ kindOf (layout (field .0))) ⌝ }
-    ensures { λ r. ⌜ r ≡ endOf (itemAt (now (s .entry)) len (format (layout (field .0))) at) ⌝ }
+    ensures { λ r. ⌜ Ends r (endOf (itemAt (now (s .entry)) len (format (layout (field .0))) at)) ⌝ }
 {
     let form = field.0;
     let kind = field.1;

@@ -2,19 +2,15 @@
 use mathlib.Core.Path.{_≡_, refl}
 use mathlib.Core.Bool.{Bool, true, false}
 use mathlib.Core.List.{List}
-use Prim.Native.Nat.{ℕ, zero, suc, _+_, _-_, _≤_, _<_}
+use Prim.Native.Nat.{ℕ, zero, suc, _+_, _-_, _≤_}
 use native.Mathlib.Omega.{arith}
 use lib.Dec.{ltb}
-use lib.ListN.{getD}
 use borrow.Author.Tests.{ltb-false}
 use Rattle.octets.specs.Numbers.{number}
 use Rattle.layouts.specs.Groups.{values}
 use Rattle.layouts.specs.Formats.{Format, done, stop, ask}
 use Rattle.layouts.specs.Offsets.{runAt, itemAt}
-
--- the octets before an offset are the same
-abbrev pub SameBefore : ℕ → List ℕ → List ℕ → Type 0
-SameBefore len s t = (i : ℕ) → i < len → getD s i 0 ≡ getD t i 0
+use Rattle.layouts.specs.Alike.{SameBefore}
 
 module _ (len : ℕ) (s t : List ℕ) (same : SameBefore len s t) where
   number-before : (k at : ℕ) → k ≤ len - at → number k s at ≡ number k t at

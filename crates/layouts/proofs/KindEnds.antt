@@ -1,6 +1,6 @@
 -- The end of an item by its kind is where reading by its format ends; an item that ends has an octet at least and lies within the
 -- block. Assumes nothing.
-use mathlib.Core.Path.{_≡_, refl, sym, _∙_, subst}
+use mathlib.Core.Path.{_≡_, refl, sym, ap, _∙_, subst}
 use mathlib.Core.Bool.{Bool, true, false, _&&_, false≢true}
 use mathlib.Core.List.{List, [], _∷_}
 use Prim.Native.Nat.{ℕ, zero, suc, _+_, _*_, _-_, _%_, _<_, _≤_}
@@ -17,13 +17,17 @@ use Rattle.layouts.specs.Groups.{Part, spare, value, values, Group}
 use Rattle.layouts.specs.Formats.{Answer, refused, got, andThen, Format, done, stop, ask, Trace}
 use Rattle.layouts.specs.Offsets.{runAt}
 use Rattle.layouts.specs.Layouts.{Layout, unused, fixed, extended, repeated, explicit, octet, lastOf, fx, times, chain, counted, format, kindOf}
-use Rattle.layouts.specs.Ends.{endOf, roomEnd, countedEnd, chainEnd, kindEnd}
+use Rattle.layouts.specs.Ends.{Ends, listedEnd, endOf, roomEnd, countedEnd, chainEnd, kindEnd}
 use Rattle.layouts.specs.Tables.{layout}
 use Rattle.layouts.proofs.Answers.{of-pick}
 use Rattle.layouts.specs.declared.ends.End.{End}
 use Rattle.layouts.specs.declared.ends.End.the-variants.{At, Refused}
 use Rattle.layouts.specs.declared.form.Form.{Form}
 use Rattle.layouts.specs.declared.form.Form.the-variants as form
+
+-- an end, told with its number and value
+pub end-told : {r e : End} → r ≡ e → Ends r e
+end-told h = (h, ap listedEnd h)
 
 -- the last part is FX, a value of one bit
 abbrev pub flagged : List Part → Bool

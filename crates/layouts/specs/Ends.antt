@@ -1,4 +1,5 @@
 -- Where an item ends, by its kind: the octet after its last one, or 7, 8 and 9 as they are met (01 "Reading order").
+use mathlib.Core.Path.{_≡_}
 use mathlib.Core.List.{List}
 use Prim.Native.Nat.{ℕ, zero, suc, _+_, _*_, _-_}
 use lib.Dec.{leb, ltb}
@@ -7,6 +8,7 @@ use Rattle.octets.specs.Choice.{pick, odd}
 use Rattle.octets.specs.Refusals.{spareMarked, passesEnd, noCount, pastLast}
 use Rattle.layouts.specs.Formats.{Answer, refused, got}
 use Rattle.layouts.specs.declared.ends.End.{End}
+use Rattle.layouts.specs.declared.ends.End.the-variants as end
 use Rattle.layouts.specs.declared.ends.Kind.{Kind}
 use Rattle.layouts.specs.declared.ends.Kind.the-variants.{Spare, Fixed, Extended, Repeated, Explicit}
 
@@ -14,6 +16,19 @@ use Rattle.layouts.specs.declared.ends.Kind.the-variants.{Spare, Fixed, 
 abbrev pub endOf : {A : Type 0} → Answer ℕ A → End
 endOf (refused n) = End.Refused n
 endOf (got a at) = End.At at
+
+-- document 01's number and value of an end: the octet after the last, which is 0 where it is refused
+pub record EndListed : Type 0 where
+  pub refusal : ℕ
+  pub at : ℕ
+
+abbrev pub listedEnd : End → EndListed
+listedEnd (end.Refused n) = record { refusal = n; at = 0 }
+listedEnd (end.At at) = record { refusal = 0; at = at }
+
+-- a function that finds an end answers it, and the same number and value
+abbrev pub Ends : End → End → Type 0
+Ends r e = (r ≡ e) × (listedEnd r ≡ listedEnd e)
 
 -- so many octets more
 abbrev pub roomEnd : ℕ → ℕ → ℕ → End

@@ -3,7 +3,7 @@ ghost use mathlib.Core.Path.{_≡_};
 ghost use Prim.Native.Nat.{_-_, _≤_};
 ghost use lib.ListN.{length};
 ghost use Rattle.octets.specs.Refusals.{longSpecification};
-ghost use Rattle.layouts.specs.Ends.{roomEnd, countedEnd, chainEnd, kindEnd};
+ghost use Rattle.layouts.specs.Ends.{Ends, roomEnd, countedEnd, chainEnd, kindEnd};
 use octets::refusal;
 
 // The kind of an item with its sizes in octets.
@@ -39,7 +39,7 @@ fn room_end(len: usize, at: usize, size: usize) -> End
 // in the slice.
 pub fn counted_end(s: &[u8], len: usize, at: usize, extra: u8, size: u8) -> End
     requires { ⌜ (at ≤ len) × (len ≤ length (now s)) ⌝ }
-    ensures { λ r. ⌜ r ≡ countedEnd (now (s .entry)) len extra size at ⌝ }
+    ensures { λ r. ⌜ Ends r (countedEnd (now (s .entry)) len extra size at) ⌝ }
 {
     if len <= at {
         return End::Refused(refusal::PASSES_END);
@@ -87,7 +87,7 @@ fn chain_end(s: &[u8], len: usize, at: usize, past: u8, size: u8, more: u8) -> E
 // that in the slice.
 pub fn specification_end(s: &[u8], len: usize, at: usize, most: u8) -> End
     requires { ⌜ (at ≤ len) × (len ≤ length (now s)) ⌝ }
-    ensures { λ r. ⌜ r ≡ chainEnd (now (s .entry)) len longSpecification 1 (most - 1) at ⌝ }
+    ensures { λ r. ⌜ Ends r (chainEnd (now (s .entry)) len longSpecification 1 (most - 1) at) ⌝ }
 {
     let more = if most == 0 { 0 } else { most - 1 };
     chain_end(s, len, at, refusal::LONG_SPECIFICATION, 1, more)
@@ -96,7 +96,7 @@ pub fn specification_end(s: &[u8], len: usize, at: usize, most: u8) -> End
 // Where an item of any kind ends. `kind_end` answers for the usual kinds itself, so that it is small. Only for the next layer: as kind_end.
 pub fn varying_end(s: &[u8], len: usize, at: usize, kind: Kind) -> End
     requires { ⌜ (at ≤ len) × (len ≤ length (now s)) ⌝ }
-    ensures { λ r. ⌜ r ≡ kindEnd (now (s .entry)) len kind at ⌝ }
+    ensures { λ r. ⌜ Ends r (kindEnd (now (s .entry)) len kind at) ⌝ }
 {
     match kind {
         Kind::Spare => End::Refused(refusal::SPARE_MARKED),
@@ -110,7 +110,7 @@ pub fn varying_end(s: &[u8], len: usize, at: usize, kind: Kind) -> End
 // Where an item of a kind ends. Only for the next layer: the offset lies before the block's end, and that in the slice.
 pub fn kind_end(s: &[u8], len: usize, at: usize, kind: Kind) -> End
     requires { ⌜ (at ≤ len) × (len ≤ length (now s)) ⌝ }
-    ensures { λ r. ⌜ r ≡ kindEnd (now (s .entry)) len kind at ⌝ }
+    ensures { λ r. ⌜ Ends r (kindEnd (now (s .entry)) len kind at) ⌝ }
 {
     match kind {
         Kind::Fixed(size) => room_end(len, at, size as usize),

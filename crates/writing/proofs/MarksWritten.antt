@@ -7,7 +7,7 @@ use native.Mathlib.Nat.{zero-add, suc-add, pow-suc, div-div-eq-div-mul, div-lt-i
 use native.Mathlib.Omega.{arith}
 use borrow.Author.Tests.{ltb-true, ltb-false, lt-ltb, eqb-true, eqb-false, eq-eqb, ne-eqb}
 use lib.Dec.{ltb, eqb}
-use lib.ListN.{length, getD, set, replicate}
+use lib.ListN.{length, set, replicate}
 use Rattle.octets.specs.Choice.{pick, odd}
 use Rattle.octets.specs.Numbers.{laid}
 use Rattle.octets.proofs.Laying.{laid-one, laid-laid}

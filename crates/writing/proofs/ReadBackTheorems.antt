@@ -30,7 +30,7 @@ use Rattle.blocks.specs.Records.{Rec}
 use Rattle.blocks.specs.Blocks.{all, blockOf}
 use Rattle.blocks.specs.Offsets.{recordAt}
 use Rattle.blocks.specs.Walks.{readOf}
-use Rattle.blocks.specs.Typed.{nowhere, typed, absent, fieldFor, placeIn, valuesFor, startFor, typedRec}
+use Rattle.blocks.specs.Typed.{nowhere, absent, fieldFor, placeIn, valuesFor, startFor, typedRec}
 use Rattle.blocks.specs.Steps.{itemsFrom, stepOf, entryGroupOf, entryValues, foundOf, entryIn, entryOf}
 use Rattle.blocks.specs.Meaning.{itemIn, valuesOf, recOf}
 use Rattle.blocks.specs.Boundaries.{Joined}

@@ -132,7 +132,7 @@ fn marks_octets(marks: u32) -> usize
 }
 
 // How many octets a record has in normal form, or the number that refuses it: 2, 6, 5, by item 7, 8, 11; 10.
-pub fn record_size(record: Record, source: &[u8]) -> Size
+pub(crate) fn record_size(record: Record, source: &[u8]) -> Size
     ensures { λ r. ⌜ r ≡ recordSize (now (source .entry)) «record» ⌝ }
 {
     let number = record.category;
@@ -211,8 +211,8 @@ fn put_items(out: &mut [u8], at: usize, record: Record, source: &[u8]) -> usize
     p
 }
 
-// Writes a record in normal form, and gives the offset behind it. Only for the next layer: the record is not refused, and its octets lie in the output.
-pub fn put_record(out: &mut [u8], at: usize, record: Record, source: &[u8]) -> usize
+// Writes a record in normal form, and gives the offset behind it. The record is not refused, and its octets lie in the output.
+pub(crate) fn put_record(out: &mut [u8], at: usize, record: Record, source: &[u8]) -> usize
     requires { ⌜ (recordRefusal (now source) «record» ≡ 0) × (at + length (recordOctets (now source) «record») ≤ length (now out)) ⌝ }
     ensures { λ r. ⌜ (now (out .exit) ≡ laid (now (out .entry)) at (recordOctets (now (source .entry)) «record»)) × (r ≡ at + length (recordOctets (now (source .entry)) «record»)) ⌝ }
 {

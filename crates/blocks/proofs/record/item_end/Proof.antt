@@ -16,7 +16,7 @@ returns c =
     let k = c .before .before .before in
     let b = k .before .before in
     let a = b .args in
-    let e : kindEnd (a .s .now) (a .len) (kindOf (layout (a .field .0))) (a .p) ≡ At (c .before .end .given .0 .0) = rw (b .pre .2) at (sym (k .kind-end .ensures) ∙ c .before .end .given .1) in
+    let e : kindEnd (a .s .now) (a .len) (kindOf (layout (a .field .0))) (a .p) ≡ At (c .before .end .given .0 .0) = rw (b .pre .2) at (sym (k .kind-end .ensures .0) ∙ c .before .end .given .1) in
     let is = kind-end (a .s .now) (a .len) (λ j. k .before .shared-slice-known .given j .fits) (layout (a .field .0)) (a .p) (forms-sound (a .field .0)) in
     (stop-at (a .p) _ (runAt (a .s .now) (a .len) (format (layout (a .field .0))) (a .p)) (is ∙ e), end-room (a .s .now) (a .len) (a .field .0) (a .p) _ e (b .pre .0) .1)
 
@@ -25,7 +25,7 @@ returns-2 c =
     let k = c .before .before in
     let b = k .before .before in
     let a = b .args in
-    let e : kindEnd (a .s .now) (a .len) (kindOf (layout (a .field .0))) (a .p) ≡ Refused (c .enum-told .given .0 .0) = rw (b .pre .2) at (sym (k .kind-end .ensures) ∙ c .enum-told .given .1) in
+    let e : kindEnd (a .s .now) (a .len) (kindOf (layout (a .field .0))) (a .p) ≡ Refused (c .enum-told .given .0 .0) = rw (b .pre .2) at (sym (k .kind-end .ensures .0) ∙ c .enum-told .given .1) in
     let is = kind-end (a .s .now) (a .len) (λ j. k .before .shared-slice-known .given j .fits) (layout (a .field .0)) (a .p) (forms-sound (a .field .0)) in
     (stop-refused (a .p) _ (runAt (a .s .now) (a .len) (format (layout (a .field .0))) (a .p)) (is ∙ e), b .pre .0)
 

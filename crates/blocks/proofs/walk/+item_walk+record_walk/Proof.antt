@@ -94,7 +94,7 @@ passed : (t : ℕ) (c : item-walk-lts.After-known-told2 (item-walk-calls t) (ite
     ≡ endOf (itemAt (z .args .s .now) (z .args .len) (format (layout (formAt (category (z .args .number)) (n .next-field .result)))) (z .args .at))
 passed t c =
     let p = c .before .before .before in
-    sym (c .before .end2 .given .1) ∙ (rw (p .before .field-of .ensures) at (p .pass .ensures))
+    sym (c .before .end2 .given .1) ∙ (rw (p .before .field-of .ensures) at (p .pass .ensures .0))
 
 -- what `record-walk` knows where a specification ends
 spec : (t : ℕ) (c : record-walk-lts.After-known-told2 (record-walk-calls t) (record-walk-at t) record-walk.Post)
@@ -103,7 +103,7 @@ spec : (t : ℕ) (c : record-walk-lts.After-known-told2 (record-walk-calls t) (r
 spec t c =
     let z = c .before .before .before .before .before .before .before .before in
     steps.spec-at _ _ _ _ _ (steps.table (z .args .number) (z .pre .1 .2)) _ (c .before .before .before .before .most-of .ensures) _
-    (sym (c .before .end2 .given .1) ∙ c .before .before .before .specification-end .ensures) (λ j. c .before .before .before .before .before .before .before .shared-slice-known .given j .fits)
+    (sym (c .before .end2 .given .1) ∙ c .before .before .before .specification-end .ensures .0) (λ j. c .before .before .before .before .before .before .before .shared-slice-known .given j .fits)
 
 pub +item-walk+record-walk-spec : {M : Type 1} → statement M
 +item-walk+record-walk-spec =
@@ -138,7 +138,7 @@ pub +item-walk+record-walk-spec : {M : Type 1} → statement M
     let n = p .before .before .before in
     let z = n .before .before in
     steps.rest-refused _ _ _ _ _ _ _ _ _ _ _ (omega arith) (n .next-field .ensures) (p .before .before .if1 .left) (z .pre .1 .6) _
-    (sym (c .before .end .given .1) ∙ (rw (p .before .field-of .ensures) at (p .pass .ensures))))
+    (sym (c .before .end .given .1) ∙ (rw (p .before .field-of .ensures) at (p .pass .ensures .0))))
     (λ c.
     let k = c .before .before in
     let p = k .before .before .before in
@@ -167,7 +167,7 @@ pub +item-walk+record-walk-spec : {M : Type 1} → statement M
     (λ c.
     let z = c .before .before .before .before .before .before .before .before in
     steps.record-refused _ _ _ _ _ (steps.table (z .args .number) (z .pre .1 .2)) _ (c .before .before .before .before .most-of .ensures) _ _ (c .before .before .before .before .before .if2 .left) (omega arith)
-    _ (sym (c .before .end .given .1) ∙ c .before .before .before .specification-end .ensures))
+    _ (sym (c .before .end .given .1) ∙ c .before .before .before .specification-end .ensures .0))
     (λ c.
     let z = c .before .before .before .before .before .before .before .before .before .before .before .before in
     steps.record-items _ _ _ _ _ (steps.table (z .args .number) (z .pre .1 .2)) _ (spec t (c .before .before .before .before)) _ _ (c .before .before .before .before .before .before .before .before .before .if2 .left) (omega arith)

@@ -8,6 +8,7 @@ use denote.Enum.Declared.{declared, tagOf}
 use types.Run.{OneOf}
 use Rattle.layouts.specs.Tables.{layout}
 use Rattle.layouts.specs.declared.ends.Kind.{Kind}
+use Rattle.layouts.proofs.KindEnds.{end-told}
 use Rattle.layouts.proofs.ends.Kind.{enum}
 use Rattle.items.proofs.Passed.{fixed-first, fixed-refused, fixed-at}
 use Rattle.items.proofs.ValueLaws.{each-of}
@@ -30,7 +31,7 @@ returns : tie.Need-returns
 returns c =
     let k = c .before .before .before .before in
     let a = k .before .args in
-    fixed-refused (a .s .now) (a .len) (λ j. k .shared-slice-known .given j .fits) (a .field .0) (a .at) (a .field .1) (k .before .pre .2) _ (c .before .before .kind .given .1) (c .if1 .taken)
+    end-told (fixed-refused (a .s .now) (a .len) (λ j. k .shared-slice-known .given j .fits) (a .field .0) (a .at) (a .field .1) (k .before .pre .2) _ (c .before .before .kind .given .1) (c .if1 .taken))
 
 first-fits-requires : tie.Need-first-fits-requires
 first-fits-requires c κs =
@@ -43,40 +44,42 @@ judged-requires : tie.Need-judged-requires
 judged-requires c κs =
     let z = c .before .before .before .before .before in
     let is = sym (z .pre .2) ∙ c .before .before .kind2 .given .1 in
-    (λ n e. repeated-fixed _ n is e, (z .args .len, z .pre .1, rw is (c .counted-end .ensures)))
+    (λ n e. repeated-fixed _ n is e, (z .args .len, z .pre .1, rw is (c .counted-end .ensures .0)))
 
 -- one of the other kinds
 judged-requires-2 : tie.Need-judged-requires-2
 judged-requires-2 c κs =
     let z = c .before .before .before in (
       λ n e. left-fixed (z .args .field .1) (c .before .match .keys3) n (z .pre .2 ∙ e),
-      (z .args .len, z .pre .1, rw (z .pre .2) at (c .varying-end .ensures)),
+      (z .args .len, z .pre .1, rw (z .pre .2) at (c .varying-end .ensures .0)),
     )
 
 returns-2 : tie.Need-returns-2
 returns-2 c =
     let k = c .before .before .before .before .before .before in
     let a = k .before .args in
-    rw (c .if2 .taken) at
-    (fixed-at (a .s .now) (a .len) (λ j. k .shared-slice-known .given j .fits) (a .field .0) (a .at) (a .field .1) (k .before .pre .2) _ (c .before .before .before .before .kind .given .1) _ (c .before .before .if1 .left) (c .before .first-fits .ensures))
+    end-told
+    (rw (c .if2 .taken) at
+    (fixed-at (a .s .now) (a .len) (λ j. k .shared-slice-known .given j .fits) (a .field .0) (a .at) (a .field .1) (k .before .pre .2) _ (c .before .before .before .before .kind .given .1) _ (c .before .before .if1 .left) (c .before .first-fits .ensures)))
 
 returns-3 : tie.Need-returns-3
 returns-3 c =
     let k = c .before .before .before .before .before .before in
     let a = k .before .args in
-    rw (c .if2 .left) at
-    (fixed-at (a .s .now) (a .len) (λ j. k .shared-slice-known .given j .fits) (a .field .0) (a .at) (a .field .1) (k .before .pre .2) _ (c .before .before .before .before .kind .given .1) _ (c .before .before .if1 .left) (c .before .first-fits .ensures))
+    end-told
+    (rw (c .if2 .left) at
+    (fixed-at (a .s .now) (a .len) (λ j. k .shared-slice-known .given j .fits) (a .field .0) (a .at) (a .field .1) (k .before .pre .2) _ (c .before .before .before .before .kind .given .1) _ (c .before .before .if1 .left) (c .before .first-fits .ensures)))
 
 returns-4 : tie.Need-returns-4
 returns-4 c =
     let z = c .before .before .before .before .before .before in
     let is = sym (z .pre .2) ∙ c .before .before .before .kind2 .given .1 in
-    c .judged .ensures (z .args .len) (rw is (c .before .counted-end .ensures))
+    end-told (c .judged .ensures (z .args .len) (rw is (c .before .counted-end .ensures .0)))
 
 returns-5 : tie.Need-returns-5
 returns-5 c =
     let z = c .before .before .before .before in
-    c .judged2 .ensures (z .args .len) (rw (z .pre .2) at (c .before .varying-end .ensures))
+    end-told (c .judged2 .ensures (z .args .len) (rw (z .pre .2) at (c .before .varying-end .ensures .0)))
 
 pub pass-spec : {M : Type 1} → statement M
 pass-spec =

@@ -15,7 +15,6 @@ use Rattle.layouts.specs.Formats.{put}
 use Rattle.layouts.specs.Layouts.{times, entryGroup}
 use Rattle.layouts.specs.Tables.{layout}
 use Rattle.layouts.specs.Offsets.{groupsAt}
-use Rattle.items.specs.Typed.{}
 use Rattle.layouts.specs.declared.form.Form.{Form}
 use Rattle.layouts.specs.declared.form.Form.the-variants as form
 use Rattle.items.proofs.Entries.{entries}

@@ -3,17 +3,18 @@ use native.Mathlib.Omega.{arith}
 use lib.Dec.{lit<}
 use borrow.Author.Needs.{needs}
 use borrow.Author.Tests.{le-leb, lt-leb}
+use Rattle.layouts.proofs.KindEnds.{end-told}
 use Rattle.layouts.proofs.ends.counted_end.Statement.{statement}
 use Rattle.layouts.proofs.ends.counted_end.Tie as tie
 
 returns : tie.Need-returns
-returns c = simp (le-leb _ _ (c .if1 .taken))
+returns c = end-told (simp (le-leb _ _ (c .if1 .taken)))
 
 shared-slice-read-n : tie.Need-shared-slice-read-n
 shared-slice-read-n c = search needs
 
 returns-2 : tie.Need-returns-2
-returns-2 c = simp (lt-leb _ _ (c .before .before .if1 .left), le-leb _ _ (c .if2 .taken))
+returns-2 c = end-told (simp (lt-leb _ _ (c .before .before .if1 .left), le-leb _ _ (c .if2 .taken)))
 
 add-room-end : tie.Need-add-room-end
 add-room-end c = search needs
@@ -34,7 +35,7 @@ room-end-requires : tie.Need-room-end-requires
 room-end-requires c κs = search needs
 
 returns-3 : tie.Need-returns-3
-returns-3 c = simp (lt-leb _ _ (c .before .before .before .if1 .left), lt-leb _ _ (c .before .if2 .left)) (c .room-end .ensures)
+returns-3 c = end-told (simp (lt-leb _ _ (c .before .before .before .if1 .left), lt-leb _ _ (c .before .if2 .left)) (c .room-end .ensures))
 
 pub counted-end-spec : {M : Type 1} → statement M
 counted-end-spec =

@@ -1,4 +1,5 @@
 use borrow.Author.Needs.{needs}
+use Rattle.layouts.proofs.KindEnds.{end-told}
 use Rattle.layouts.proofs.ends.kind_end.Statement.{statement}
 use Rattle.layouts.proofs.ends.kind_end.Tie as tie
 
@@ -12,6 +13,6 @@ kind-end-spec =
     (λ c. search needs)
     (λ c κs. search needs)
     (λ c κs. search needs)
-    (λ c. rw (c .before .before .kind .given .1) (c .room-end .ensures))
+    (λ c. end-told (rw (c .before .before .kind .given .1) (c .room-end .ensures)))
     (λ c. rw (c .before .before .kind2 .given .1) (c .counted-end .ensures))
     (λ c. search needs))

@@ -3,6 +3,7 @@ use mathlib.Core.Logic.{⊎-elim}
 use Prim.Native.Nat.{_-_}
 use native.Mathlib.Omega.{arith}
 use borrow.Author.Needs.{needs}
+use Rattle.layouts.proofs.KindEnds.{end-told}
 use Rattle.layouts.proofs.ends.specification_end.Statement.{statement}
 use Rattle.layouts.proofs.ends.specification_end.Tie as tie
 
@@ -16,7 +17,7 @@ returns : tie.Need-returns
 returns c =
     let j = c .before in
     let e : j .if1 .more ≡ j .before .before .args .most - 1 = ⊎-elim (λ w. omega arith) (λ w. omega arith) (j .if1 .came) in
-    rw (← e) (c .chain-end .ensures)
+    end-told (rw (← e) (c .chain-end .ensures))
 
 pub specification-end-spec : {M : Type 1} → statement M
 specification-end-spec = tie.close (tie.spec sub-more chain-end-requires returns)

@@ -1,4 +1,5 @@
 use borrow.Author.Needs.{needs}
+use Rattle.layouts.proofs.KindEnds.{end-told}
 use Rattle.layouts.proofs.ends.varying_end.Statement.{statement}
 use Rattle.layouts.proofs.ends.varying_end.Tie as tie
 
@@ -33,13 +34,13 @@ counted-end-requires-2 : tie.Need-counted-end-requires-2
 counted-end-requires-2 c κs = search needs
 
 returns : tie.Need-returns
-returns c = rw (c .enum-told .given .1)
+returns c = end-told (rw (c .enum-told .given .1))
 
 returns-2 : tie.Need-returns-2
-returns-2 c = rw (c .before .before .kind .given .1) (c .room-end .ensures)
+returns-2 c = end-told (rw (c .before .before .kind .given .1) (c .room-end .ensures))
 
 returns-3 : tie.Need-returns-3
-returns-3 c = rw (c .before .before .kind2 .given .1) (c .chain-end .ensures)
+returns-3 c = end-told (rw (c .before .before .kind2 .given .1) (c .chain-end .ensures))
 
 returns-4 : tie.Need-returns-4
 returns-4 c = rw (c .before .before .kind3 .given .1) (c .counted-end .ensures)
