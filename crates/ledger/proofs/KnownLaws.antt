@@ -1,30 +1,29 @@
 -- Entries whose keys all have rows far from the end: there is room for them, no life count passes, and each is added up at its row's place.
 -- Assumes nothing.
-use mathlib.Core.Bool.{Bool, true, false}
+use mathlib.Core.Bool.{true, false}
 use mathlib.Core.List.{List, []}
 use mathlib.Core.Option.{Option, none, some}
 use mathlib.Core.Path.{_≡_, refl, ap, sym, _∙_, subst}
 use Prim.Native.Nat.{ℕ, zero, suc, _+_, _*_, _≤_, _<_, _^_}
 use native.Mathlib.Omega.{arith}
 use lib.Dec.{leb, eqb}
-use lib.ListN.{length, getD, set, replicate, length-set}
+use lib.ListN.{length, getD, set, replicate, length-set, getD-replicate}
 use lib.Seq.{getD-set-same, getD-set-other}
 use borrow.Author.Count.{below-more}
 use borrow.Author.Tests.{lt-leb, leb-false, eqb-true, eqb-false}
 use Rattle.octets.proofs.Cases.{test}
 use Rattle.blocks.specs.Statistics.{entryOf}
-use Rattle.blocks.proofs.SmallLaws.{count-small}
+use Rattle.blocks.proofs.SmallLaws.{type-small, count-small}
 use Rattle.rows.specs.Rows.{Row, Entry, adds, addUp, rowOf, has, lifeOf, orNew}
 use Rattle.rows.specs.Posting.{newKeys, rowsFor, addEntry, passes, Sorted}
 use Rattle.rows.proofs.Rows.{sorted-add, row-own, row-other}
 use Rattle.rows.proofs.Theorems.{adding-key}
-use Rattle.ledger.specs.Ledgers.{rowIn, rowsOf, putRow}
+use Rattle.ledger.specs.Ledgers.{rowIn, countOf, rowsOf, putRow}
 use Rattle.ledger.specs.Reports.{entryAt, entriesFrom}
-use Rattle.ledger.specs.Steps.{Kept, RowAt, Known, entry}
-use Rattle.ledger.proofs.CellLaws.{rows-many}
+use Rattle.ledger.specs.Steps.{Kept, Found, RowAt, Noted, Known, entry}
+use Rattle.ledger.proofs.CellLaws.{rows-many, kept-rising}
 use Rattle.ledger.proofs.EntryLaws.{Reads}
 use Rattle.ledger.proofs.LoopSteps.{AddLoop, add-none, add-low, add-more}
-use Rattle.ledger.proofs.NotedLaws.{none-seen, seen-still, seen-own}
 use Rattle.ledger.proofs.PlaceLaws.{put-stays, at-row, row-adds, own-life}
 
 -- An entry raises a life count by its own count at most
@@ -85,63 +84,77 @@ module _ (cells : List ℕ) (g : Kept cells) (s : List ℕ) (first at n : ℕ) (
         (λ i h. omega (arith, w .few, w .far i (omega arith), ap lifeOf (row-at i (omega arith)))),
   )
 
--- `all_known`
+-- `note_rows`
 
--- a TYPE's row is at a place, far from the end
-abbrev pub Far : List ℕ → ℕ → ℕ → Type 0
-Far cells k i = RowAt cells k i × (rowIn cells i .life + 2 ^ 40 ≤ 2 ^ 64)
+-- at a place: what is noted is so, and no row from there on has a key below the report's
+pub record NoteLoop (cells : List ℕ) (first : ℕ) (places : List ℕ) (i : ℕ) : Type 0 where
+  pub noted : Noted cells first places
+  pub above : (j : ℕ) → i ≤ j → j < countOf cells → first ≤ rowIn cells j .key
 
--- at entry i: of each TYPE that has been seen the row is known, and those of the entries so far have been seen
-pub record LookLoop (cells s : List ℕ) (first at : ℕ) (seen : List Bool) (places : List ℕ) (i : ℕ) : Type 0 where
-  pub seen-long : length seen ≡ 256
-  pub long : length places ≡ 256
-  pub rows : (u : ℕ) → getD seen u false ≡ true → Far cells (first + u) (getD places u 0)
-  pub so-far : (j : ℕ) → j < i → getD seen (entryOf s at j .typ) false ≡ true
+-- at first nothing is noted
+pub noted-none : (cells : List ℕ) (first : ℕ) → Noted cells first (replicate 256 256)
+noted-none cells first = record {
+  long = refl;
+  rows = λ u h l. absurd (omega (arith, nowhere u h));
+  far = λ u h l. absurd (omega (arith, nowhere u h));
+}
+  where
+    nowhere : (u : ℕ) → u < 256 → _≡_ {A = ℕ} (getD (replicate 256 256) u 0) 256
+    nowhere u h = getD-replicate 256 u 256 0 h
 
-module _ (cells s : List ℕ) (first at : ℕ) where
-  -- at first none has been seen
-  pub look-none : (places : List ℕ) → length places ≡ 256 → LookLoop cells s first at (replicate 256 false) places 0
-  look-none places h = record {
-    seen-long = refl;
-    long = h;
-    rows = λ u t. none-seen 256 u t;
-    so-far = λ j l. absurd (omega arith);
+module _ (cells : List ℕ) (g : Kept cells) (first : ℕ) (places : List ℕ) where
+  -- the rows from the first key's place on
+  pub note-none : Noted cells first places → (i : ℕ) → Found cells first i → NoteLoop cells first places i
+  note-none w i f = record {
+    noted = w;
+    above = λ j l h. test (eqb i j)
+        (λ t. subst (λ x. first ≤ rowIn cells x .key) (eqb-true i j t) (f .above (omega arith)))
+        (λ n. omega (arith, f .above (omega arith), kept-rising cells g i j (omega (arith, eqb-false i j n)) h));
   }
 
-  module _ (seen : List Bool) (places : List ℕ) (i : ℕ) (c : LookLoop cells s first at seen places i) where
-    -- a TYPE is seen, and its row is known
-    pub look-mark : (t r : ℕ) → t < 256 → Far cells (first + t) r
-        → LookLoop cells s first at (set seen t true) (set places t r) i × (getD (set seen t true) t false ≡ true)
-    look-mark t r h k =
-        let in-seen : t < length seen = omega (arith, c .seen-long) in (
-          record {
-            seen-long = length-set seen t true ∙ c .seen-long;
-            long = length-set places t r ∙ c .long;
-            rows = seen-own seen t
-                (λ u n. subst (Far cells (first + u)) (sym (getD-set-other places t u r 0 (λ q. n (sym q)))))
-                (subst (Far cells (first + t)) (sym (getD-set-same places t r 0 (omega (arith, c .long)))) k) (c .rows);
-            so-far = λ j l. seen-still seen t in-seen (entryOf s at j .typ) (c .so-far j l);
-          },
-          getD-set-same seen t true false in-seen,
-        )
+  module _ (i : ℕ) (c : NoteLoop cells first places i) where
+    -- the next row
+    pub note-next : NoteLoop cells first places (i + 1)
+    note-next = record { noted = c .noted; above = λ j l h. c .above j (omega arith) h }
 
-    -- an entry more, whose TYPE has been seen
-    pub look-more : (t : ℕ) → t ≡ entryOf s at i .typ → getD seen t false ≡ true → LookLoop cells s first at seen places (i + 1)
-    look-more t q h = record {
-      seen-long = c .seen-long;
-      long = c .long;
-      rows = c .rows;
-      so-far = below-more (λ j. getD seen (entryOf s at j .typ) false ≡ true) i (c .so-far) (subst (λ u. getD seen u false ≡ true) q h);
-    }
+    -- a row is noted
+    pub note-mark : (t : ℕ) → t < 256 → i < countOf cells → rowIn cells i .key ≡ first + t → rowIn cells i .life + 2 ^ 40 ≤ 2 ^ 64
+        → NoteLoop cells first (set places t i) i
+    note-mark t h inside same far =
+        let here : t < length places = omega (arith, c .noted .long) in
+        let own : (P : ℕ → ℕ → Type 0) → P t i → ((u : ℕ) → u < 256 → getD places u 0 < 256 → P u (getD places u 0))
+            → (u : ℕ) → u < 256 → getD (set places t i) u 0 < 256 → P u (getD (set places t i) u 0)
+        = λ P new old u l q. test (eqb t u)
+            (λ y. subst (λ v. P v (getD (set places t i) v 0)) (eqb-true t u y) (subst (P t) (sym (getD-set-same places t i 0 here)) new))
+            (λ n. let e = getD-set-other places t u i 0 (λ z. eqb-false t u n (sym z)) in subst (P u) (sym e) (old u l (rw e at q))) in
+        record {
+          noted = record {
+            long = length-set places t i ∙ c .noted .long;
+            rows = own (λ u x. RowAt cells (first + u) x) (record { inside = inside; same = same }) (c .noted .rows);
+            far = own (λ u x. rowIn cells x .life + 2 ^ 40 ≤ 2 ^ 64) far (c .noted .far);
+          };
+          above = c .above;
+        }
 
-    -- at the end all are known
-    pub look-end : (n : ℕ) → n < 256 → n ≤ i → Known cells s first at n places
-    look-end n few h = record {
-      few = few;
-      long = c .long;
-      rows = λ j l. c .rows (entryOf s at j .typ) (c .so-far j (omega arith)) .0;
-      far = λ j l. c .rows (entryOf s at j .typ) (c .so-far j (omega arith)) .1;
-    }
+-- `all_known`
+
+-- the entries up to one have places
+abbrev pub Placed : List ℕ → ℕ → List ℕ → ℕ → Type 0
+Placed s at places i = (j : ℕ) → j < i → getD places (entryOf s at j .typ) 0 < 256
+
+module _ (s : List ℕ) (at : ℕ) (places : List ℕ) (i : ℕ) (p : Placed s at places i) where
+  -- an entry more
+  pub placed-more : (t : ℕ) → t ≡ entryOf s at i .typ → getD places t 0 < 256 → Placed s at places (i + 1)
+  placed-more t e h = below-more (λ j. getD places (entryOf s at j .typ) 0 < 256) i p (subst (λ u. getD places u 0 < 256) e h)
+
+  -- at the end all are known
+  pub placed-end : (cells : List ℕ) (first n : ℕ) → Noted cells first places → n < 256 → n ≤ i → Known cells s first at n places
+  placed-end cells first n w few h = record {
+    few = few;
+    long = w .long;
+    rows = λ j l. w .rows (entryOf s at j .typ) (type-small s at j) (p j (omega arith));
+    far = λ j l. w .far (entryOf s at j .typ) (type-small s at j) (p j (omega arith));
+  }
 
 -- `post_known`: an entry is added up at its row's place
 

@@ -26,7 +26,7 @@ pub record Seen (Q : ℕ → Option Row → Type 0) (rows now : List Row) (first
   pub own : (u : ℕ) → getD seen u false ≡ true → Q u (rowOf now (first + u))
 
 -- at first none has been seen
-pub none-seen : {P : Type 0} (n u : ℕ) → getD (replicate n false) u false ≡ true → P
+none-seen : {P : Type 0} (n u : ℕ) → getD (replicate n false) u false ≡ true → P
 none-seen n u h = absurd (false≢true (sym (get-same false n u) ∙ h))
 
 pub seen-none : (Q : ℕ → Option Row → Type 0) (rows : List Row) (first n : ℕ) → Seen Q rows rows first (replicate n false)
@@ -44,12 +44,8 @@ module _ (seen : List Bool) (t : ℕ) where
   seen-far : (u : ℕ) → (t ≡ u → ⊥) → getD (set seen t true) u false ≡ getD seen u false
   seen-far u n = getD-set-other seen t u true false (λ q. n (sym q))
 
-  -- those that had been seen still are
-  pub seen-still : t < length seen → (u : ℕ) → getD seen u false ≡ true → getD (set seen t true) u false ≡ true
-  seen-still h u g = test (eqb t u) (λ y. seen-same h u (eqb-true t u y)) (λ z. seen-far u (eqb-false t u z) ∙ g)
-
   -- what is said of each that has been seen
-  pub seen-own : {Q R : ℕ → Type 0} → ((u : ℕ) → (t ≡ u → ⊥) → Q u → R u) → R t
+  seen-own : {Q R : ℕ → Type 0} → ((u : ℕ) → (t ≡ u → ⊥) → Q u → R u) → R t
       → ((u : ℕ) → getD seen u false ≡ true → Q u) → (u : ℕ) → getD (set seen t true) u false ≡ true → R u
   seen-own {Q} {R} keeps new own u g =
       test (eqb t u) (λ y. subst R (eqb-true t u y) new)

@@ -52,6 +52,12 @@ pub record RowAt (cells : List ℕ) (k i : ℕ) : Type 0 where
   pub inside : i < countOf cells
   pub same : rowIn cells i .key ≡ k
 
+-- what is noted of a report's counters, by TYPE: a place is that of the key's row, and no report brings its life count to the end; 256 is no place
+pub record Noted (cells : List ℕ) (first : ℕ) (places : List ℕ) : Type 0 where
+  pub long : length places ≡ 256
+  pub rows : (u : ℕ) → u < 256 → getD places u 0 < 256 → RowAt cells (first + u) (getD places u 0)
+  pub far : (u : ℕ) → u < 256 → getD places u 0 < 256 → rowIn cells (getD places u 0) .life + 2 ^ 40 ≤ 2 ^ 64
+
 -- each of n entries has a key with a row, whose place stands by TYPE, and no report brings its life count to the end
 pub record Known (cells s : List ℕ) (first at n : ℕ) (places : List ℕ) : Type 0 where
   pub few : n < 256

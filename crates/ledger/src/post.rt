@@ -3,14 +3,13 @@ ghost use mathlib.Core.Path.{_≡_};
 ghost use mathlib.Core.Bool.{true, false};
 ghost use Prim.Native.Nat.{ℕ, _+_, _≤_, _<_, _^_};
 ghost use lib.Dec.{leb};
-ghost use lib.ListN.{length};
 ghost use Rattle.octets.specs.Choice.{pick};
 ghost use Rattle.rows.specs.Rows.{addUp, rowOf, has};
 ghost use Rattle.rows.specs.Posting.{counts, rowsFor, passes, addAll};
 ghost use Rattle.ledger.specs.Ledgers.{rowsOf, changed, answer, Held};
 ghost use Rattle.ledger.specs.Reports.{firstKey, entriesFrom, entriesAt, reportIn, stepAt};
 ghost use Rattle.ledger.specs.Posts.{postedTo, postOf};
-ghost use Rattle.ledger.specs.Steps.{Kept, InOctets, Known, Lies};
+ghost use Rattle.ledger.specs.Steps.{Noted, Kept, InOctets, Known, Lies};
 use crate::Answer;
 use crate::Ledger;
 use crate::cells::CELLS;
@@ -102,6 +101,29 @@ fn add_all(cells: &mut [u64; CELLS], s: &[u8], first: u64, at: usize, n: usize) 
 // From here on a life count could pass by a report, which adds less than 2^40.
 const NEAR: u64 = 0xFFFF_FF00_0000_0000;
 
+// The place of a row that is not noted: past the last.
+const NOWHERE: u16 = ROWS as u16;
+
+// Notes the places of a report's counters, by TYPE, where their life counts are far from the end; what else is noted stays. Their rows stand side by
+// side, so that a search is made once, and not for each entry.
+fn note_rows(cells: &[u64; CELLS], first: u64, places: &mut [u16; 256])
+    requires { ⌜ Kept (now cells) × (first + 255 < 2 ^ 32) × Noted (now cells) first (now places) ⌝ }
+    ensures { λ _. ⌜ Noted (now (cells .entry)) first (now (places .exit)) ⌝ }
+{
+    let count = count_of(cells);
+    let mut place = find(cells, first);
+    while place < count {
+        let row = row_at(cells, place);
+        if first + 255 < row.key {
+            return;
+        }
+        if row.life < NEAR {
+            places[(row.key - first) as usize] = place as u16;
+        }
+        place += 1;
+    }
+}
+
 // Whether each counter of n entries has a row whose life count is far from its end. Then `places` has the row's place, by TYPE.
 fn all_known(
     cells: &[u64; CELLS],
@@ -109,31 +131,20 @@ fn all_known(
     first: u64,
     at: usize,
     n: usize,
-    places: &mut [u8; 256],
+    places: &mut [u16; 256],
 ) -> bool
-    requires { ⌜ Kept (now cells) × (first + 255 < 2 ^ 32) × InOctets (now s) at n × (length (now places) ≡ 256) ⌝ }
+    requires { ⌜ Kept (now cells) × (first + 255 < 2 ^ 32) × InOctets (now s) at n × Noted (now cells) first (now places) ⌝ }
     ensures { λ r. ⌜ (r ≡ true → Known (now (cells .entry)) (now (s .entry)) first at n (now (places .exit))) ⌝ }
 {
     if n > 255 {
         return false;
     }
-    let mut seen = [false; 256];
+    note_rows(cells, first, places);
     let mut i: usize = 0;
     while i < n {
         let entry = counter(s, at, i);
-        let typ = entry.typ as usize;
-        if !seen[typ] {
-            let key = first + entry.typ as u64;
-            let place = find(cells, key);
-            if !holds(cells, place, key) {
-                return false;
-            }
-            let row = row_at(cells, place);
-            if row.life >= NEAR {
-                return false;
-            }
-            seen[typ] = true;
-            places[typ] = place as u8;
+        if places[entry.typ as usize] >= NOWHERE {
+            return false;
         }
         i += 1;
     }
@@ -146,7 +157,7 @@ fn post_known(cells: &mut [u64; CELLS], s: &[u8], first: u64, at: usize, n: usiz
     ensures { λ r. ⌜ (r ≡ true → (time : ℕ) → answer 0 (now (cells .exit)) ≡ postedTo (now (cells .entry)) (counts (entriesFrom (now (s .entry)) first time at n 0)))
         × (r ≡ false → now (cells .exit) ≡ now (cells .entry)) ⌝ }
 {
-    let mut places = [0u8; 256];
+    let mut places = [NOWHERE; 256];
     if !all_known(cells, s, first, at, n, &mut places) {
         return false;
     }

@@ -1,5 +1,5 @@
 -- `add_entry`: the life count would pass; the row changes; or there is one more. Assumes nothing.
-use mathlib.Core.Bool.{false, true≢false}
+use mathlib.Core.Bool.{true≢false}
 use mathlib.Core.Path.{_≡_, ap, sym, _∙_}
 use Prim.Native.Nat.{ℕ, _^_}
 use native.Mathlib.Omega.{arith}

@@ -5,7 +5,7 @@ use Prim.Native.Nat.{_-_}
 use native.Mathlib.Omega.{arith}
 use borrow.Author.Needs.{needs}
 use borrow.Author.Tests.{not-false}
-use Rattle.ledger.proofs.KnownLaws.{KnownLoop, known-adds, known-none, known-fits, known-more}
+use Rattle.ledger.proofs.KnownLaws.{noted-none, KnownLoop, known-adds, known-none, known-fits, known-more}
 use Rattle.ledger.proofs.LoopSteps.{add-end}
 use Rattle.ledger.proofs.PostSteps.{post-added}
 use Rattle.ledger.proofs.post.post_known.Statement.{statement}
@@ -59,10 +59,11 @@ pub post-known-spec : {M : Type 1} → statement M
 post-known-spec =
     tie.close
     (tie.spec Inv-loop μ-loop
-    (λ c κs. let z = c .before .before .before in (z .pre .0, z .pre .1, z .pre .2, refl))
+    (λ c κs. let z = c .before .before .before in (z .pre .0, z .pre .1, z .pre .2, noted-none _ _))
     (λ c. (λ q. absurd (false≢true q), λ q. refl))
     (λ c. known-none _ _ _ _ _ (c .before .before .before .before .before .pre .0) _ (c .before .all-known .ensures (not-false _ (c .if1 .left))))
     (λ c κs. search needs)
+    (λ c. search needs)
     (λ c. search needs)
     (λ c. search needs)
     cast-place-2
