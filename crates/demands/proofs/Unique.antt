@@ -53,7 +53,7 @@ pub one-storing : (l : Ledger) (o out out' : List ℕ) (r q : Written) → Store
 one-storing l o out out' r q h k = only-both (h .0, h .1) (k .0, k .1)
 
 pub one-beginning : (s : List ℕ) (over : Bool) (r q : Next) → Begins s over r → Begins s over q → r ≡ q
-one-beginning s over r q h k = only h k
+one-beginning s over r q h k = only (h .0) (k .0)
 
 pub one-wear-reading : (s cells after after' : List ℕ) (r q : ℕ) → WearReads s cells after r → WearReads s cells after' q
     → (r ≡ q) × (after ≡ after')

@@ -18,7 +18,7 @@ use Rattle.ledger.specs.declared.Answer.{Answer}
 use Rattle.ledger.specs.declared.Ledger.{Ledger}
 use Rattle.writing.specs.Written.{writeOf, rewriteOf}
 use Rattle.octets.specs.declared.output.Written.{Written}
-use Rattle.feed.specs.Blocks.{nextOf}
+use Rattle.feed.specs.Blocks.{nextOf, listedNext, nextListed}
 use Rattle.feed.specs.declared.block.Next.{Next}
 use Rattle.doors.specs.Cells.{cellCount}
 use Rattle.doors.specs.Answers.{isFew, numberOr, cellsOr, readCells, stepCells, entryCells, putNumber, putOutput, putLength, cellsWritten, pagePosted}
@@ -74,7 +74,7 @@ Stores l o out r = Puts (storeOf (l .cells)) o out r
 
 -- feed::block::next_block: the octets at hand, whether the input is over, the answer
 abbrev pub Begins : List ℕ → Bool → Next → Type 0
-Begins s over r = r ≡ nextOf s over
+Begins s over r = (r ≡ nextOf s over) × (listedNext r ≡ nextListed s over)
 
 -- the doors: whether too few cells are lent, the number and the values otherwise, the cells before and after, the number answered
 abbrev Lays : Bool → ℕ → List ℕ → List ℕ → List ℕ → ℕ → Type 0

@@ -8,13 +8,13 @@ use lib.Dec.{ltb, eqb}
 use lib.ListN.{length}
 use Rattle.octets.specs.Choice.{pick}
 use Rattle.octets.specs.Numbers.{Octets}
-use Rattle.octets.proofs.Cases.{choose}
+use Rattle.octets.proofs.Cases.{test, choose}
 use Rattle.blocks.specs.Walks.{readOf}
 use Rattle.blocks.specs.declared.walk.Reading.{Reading}
 use Rattle.blocks.specs.declared.walk.Reading.the-variants as reading
 use Rattle.blocks.proofs.HeaderLaws.{header-good}
 use Rattle.blocks.proofs.TakenLaws.{accepted-head}
-use Rattle.feed.specs.Blocks.{lenOf, judged, nextOf}
+use Rattle.feed.specs.Blocks.{lenOf, counts, judgedBy, judged, nextOf, listedNext, nextListed}
 use Rattle.feed.specs.declared.block.Next.{Next}
 use Rattle.feed.specs.declared.block.Next.the-variants as next
 
@@ -59,6 +59,23 @@ module _ (s : List ℕ) (over : Bool) where
       pub next-judged : len ≤ length s → (r : Reading) → r ≡ readOf s → judged len r ≡ nextOf s over
       unfolding nextOf
       next-judged h r e = rw (le-ltb (length s) 3 long, ← is, le-ltb len 4 least, le-ltb (length s) len h, ← e)
+
+  -- the definitions list the answer itself
+  next-listed : listedNext (nextOf s over) ≡ nextListed s over
+  unfolding nextOf nextListed
+  next-listed =
+      test (ltb (length s) 3)
+      (λ a. rw a (test over (λ o. rw o (test (eqb (length s) 0) (λ z. rw z) (λ z. rw z))) (λ o. rw o)))
+      (λ a. rw a (test (ltb (lenOf s) 4) (λ b. rw b)
+      (λ b. rw b (test (ltb (length s) (lenOf s)) (λ d. rw d (test over (λ o. rw o) (λ o. rw o))) (λ d. rw d (listed (readOf s)))))))
+    where
+      listed : (r : Reading) → listedNext (judged (lenOf s) r) ≡ judgedBy (counts 1 0) (counts 0 1) (lenOf s) r
+      listed (reading.Accepted l n) = refl
+      listed (reading.Refused n at) = refl
+
+  -- an answer, and its numbers
+  pub next-told : (r : Next) → r ≡ nextOf s over → (r ≡ nextOf s over) × (listedNext r ≡ nextListed s over)
+  next-told r e = (e, ap listedNext e ∙ next-listed)
 
   -- test after test
   pub next-cases : (P : Next → Type 0)

@@ -13,24 +13,51 @@ use Rattle.blocks.specs.declared.walk.Reading.the-variants as reading
 use Rattle.rows.specs.Posting.{Report}
 use Rattle.ledger.specs.Reports.{reportIn}
 use Rattle.feed.specs.declared.block.Next.{Next}
+use Rattle.feed.specs.declared.block.Next.the-variants as next
 
 -- LEN, of three octets at least
 abbrev pub lenOf : List ℕ → ℕ
 lenOf s = number 2 s 1
 
--- a block of which all octets are there: accepted, or refused and skipped by LEN
-abbrev pub judged : ℕ → Reading → Next
-judged len (reading.Accepted l n) = Next.Accepted len
-judged len (reading.Refused n at) = Next.Skipped len
+module _ {A : Type 0} (accepted skipped : ℕ → A) where
+  -- a block of which all octets are there: accepted, or refused and skipped by LEN
+  abbrev pub judgedBy : ℕ → Reading → A
+  judgedBy len (reading.Accepted l n) = accepted len
+  judgedBy len (reading.Refused n at) = skipped len
 
--- What the octets at hand begin with. Unless the input is over, more may come. Input that ends between blocks ends the run; fewer than 3 octets
--- left, LEN below 4 or past the input's end stop it, even where the refusal is 2.
+  -- What the octets at hand begin with. Unless the input is over, more may come. Input that ends between blocks ends the run; fewer than 3
+  -- octets left, LEN below 4 or past the input's end stop it, even where the refusal is 2.
+  abbrev pub nextBy : A → A → A → List ℕ → Bool → A
+  nextBy ended stopped more s over =
+      pick (ltb (length s) 3) (pick over (pick (eqb (length s) 0) ended stopped) more)
+      (pick (ltb (lenOf s) 4) stopped
+      (pick (ltb (length s) (lenOf s)) (pick over stopped more)
+      (judgedBy (lenOf s) (readOf s))))
+
+abbrev pub judged : ℕ → Reading → Next
+judged = judgedBy Next.Accepted Next.Skipped
+
 unfoldable pub nextOf : List ℕ → Bool → Next
-nextOf s over =
-    pick (ltb (length s) 3) (pick over (pick (eqb (length s) 0) Next.Ended Next.Stopped) Next.More)
-    (pick (ltb (lenOf s) 4) Next.Stopped
-    (pick (ltb (length s) (lenOf s)) (pick over Next.Stopped Next.More)
-    (judged (lenOf s) (readOf s))))
+nextOf = nextBy Next.Accepted Next.Skipped Next.Ended Next.Stopped Next.More
+
+-- The same in numbers: the blocks accepted, the blocks refused, and the octets that the run goes on by
+pub record NextListed : Type 0 where
+  pub accepted : ℕ
+  pub refused : ℕ
+  pub octets : ℕ
+
+abbrev pub counts : ℕ → ℕ → ℕ → NextListed
+counts accepted refused octets = record { accepted = accepted; refused = refused; octets = octets }
+
+abbrev pub listedNext : Next → NextListed
+listedNext (next.Accepted len) = counts 1 0 len
+listedNext (next.Skipped len) = counts 0 1 len
+listedNext next.Ended = counts 0 0 0
+listedNext next.Stopped = counts 0 1 0
+listedNext next.More = counts 0 0 0
+
+unfoldable pub nextListed : List ℕ → Bool → NextListed
+nextListed = nextBy (counts 1 0) (counts 0 1) (counts 0 0 0) (counts 0 1 0) (counts 0 0 0)
 
 -- The reports of a block's records, as steps visit them; n at most
 unfoldable pub reportsFrom : List ℕ → ℕ → ℕ → List Report

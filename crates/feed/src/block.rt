@@ -7,7 +7,7 @@ ghost use Rattle.rows.specs.Rows.{addUp};
 ghost use Rattle.rows.specs.Posting.{answers, after};
 ghost use Rattle.ledger.specs.Ledgers.{rowsOf, changed};
 ghost use Rattle.ledger.specs.Steps.{Kept};
-ghost use Rattle.feed.specs.Blocks.{nextOf, reportsOf};
+ghost use Rattle.feed.specs.Blocks.{nextOf, listedNext, nextListed, reportsOf};
 ghost use Rattle.feed.specs.Totals.{acceptedOne};
 use crate::totals::Totals;
 use crate::totals::counted;
@@ -31,7 +31,7 @@ pub enum Next {
 
 // What the octets at hand begin with.
 pub fn next_block(s: &[u8], is_over: bool) -> Next
-    ensures { λ r. ⌜ r ≡ nextOf (now (s .entry)) «is_over» ⌝ }
+    ensures { λ r. ⌜ (r ≡ nextOf (now (s .entry)) «is_over») × (listedNext r ≡ nextListed (now (s .entry)) «is_over») ⌝ }
 {
     let size = s.len();
     if size < 3 {

@@ -20,20 +20,20 @@ returns : tie.Need-returns Inv-loop μ-loop
 returns c =
     let b = c .before .before in
     let l = b .before .before .before in
-    steps.going-ended _ _ _ _ _ _ _ (l .loop .inv) (b .before .before .loop-test .taken) (sym (c .enum-told .given .1) ∙ b .next-block .ensures)
+    steps.going-ended _ _ _ _ _ _ _ (l .loop .inv) (b .before .before .loop-test .taken) (sym (c .enum-told .given .1) ∙ b .next-block .ensures .0)
 
 returns-2 : tie.Need-returns-2 Inv-loop μ-loop
 returns-2 c =
     let b = c .before .before .before in
     let l = b .before .before .before in
     steps.going-stopped _ _ _ _ _ _ _ (l .loop .inv) (b .before .before .loop-test .taken)
-    (sym (c .before .enum-told2 .given .1) ∙ b .next-block .ensures) _ (c .with-refused .ensures)
+    (sym (c .before .enum-told2 .given .1) ∙ b .next-block .ensures .0) _ (c .with-refused .ensures)
 
 returns-3 : tie.Need-returns-3 Inv-loop μ-loop
 returns-3 c =
     let b = c .before .before in
     let l = b .before .before .before in
-    steps.going-more _ _ _ _ _ _ _ (l .loop .inv) (b .before .before .loop-test .taken) (sym (c .enum-told3 .given .1) ∙ b .next-block .ensures)
+    steps.going-more _ _ _ _ _ _ _ (l .loop .inv) (b .before .before .loop-test .taken) (sym (c .enum-told3 .given .1) ∙ b .next-block .ensures .0)
 
 -- the next offset is within the octets
 add-at : tie.Need-add-at Inv-loop μ-loop
@@ -42,7 +42,7 @@ add-at c =
     let b = w .before .before in
     let l = b .before .before .before in
     let g = steps.going-skipped _ _ _ _ _ _ _ (l .loop .inv) (b .before .before .loop-test .taken)
-    (λ j. l .before .shared-slice-known .given j .fits) _ (sym (w .next .given .1) ∙ b .next-block .ensures) _ (c .with-refused2 .ensures) in
+    (λ j. l .before .shared-slice-known .given j .fits) _ (sym (w .next .given .1) ∙ b .next-block .ensures .0) _ (c .with-refused2 .ensures) in
     omega (arith, g .within, l .before .before)
 
 -- the block was accepted
@@ -52,7 +52,7 @@ post-block-requires c κs =
     let b = w .before .before in
     let l = b .before .before .before in
     steps.going-asks _ _ _ _ _ _ _ (l .loop .inv) (b .before .before .loop-test .taken) (λ j. l .before .shared-slice-known .given j .fits)
-    _ (sym (w .next2 .given .1) ∙ b .next-block .ensures)
+    _ (sym (w .next2 .given .1) ∙ b .next-block .ensures .0)
 
 -- the next offset is within the octets
 add-at-2 : tie.Need-add-at-2 Inv-loop μ-loop
@@ -61,7 +61,7 @@ add-at-2 c =
     let b = w .before .before in
     let l = b .before .before .before in
     let g = steps.going-accepted _ _ _ _ _ _ _ (l .loop .inv) (b .before .before .loop-test .taken)
-    (λ j. l .before .shared-slice-known .given j .fits) _ (sym (w .next2 .given .1) ∙ b .next-block .ensures)
+    (λ j. l .before .shared-slice-known .given j .fits) _ (sym (w .next2 .given .1) ∙ b .next-block .ensures .0)
     _ _ (c .post-block .ensures .0) (c .post-block .ensures .1) in
     omega (arith, g .within, l .before .before)
 
@@ -73,10 +73,10 @@ loop-again c =
     ⊎-elim
     (λ w. rw (w .4, w .5, w .6)
     (steps.going-skipped _ _ _ _ _ _ _ (l .loop .inv) (b .before .before .loop-test .taken)
-    (λ j. l .before .shared-slice-known .given j .fits) _ (sym (w .1 .given .1) ∙ b .next-block .ensures) _ (w .3 .ensures)))
+    (λ j. l .before .shared-slice-known .given j .fits) _ (sym (w .1 .given .1) ∙ b .next-block .ensures .0) _ (w .3 .ensures)))
     (λ w. rw (w .5, w .6, w .7)
     (steps.going-accepted _ _ _ _ _ _ _ (l .loop .inv) (b .before .before .loop-test .taken)
-    (λ j. l .before .shared-slice-known .given j .fits) _ (sym (w .1 .given .1) ∙ b .next-block .ensures)
+    (λ j. l .before .shared-slice-known .given j .fits) _ (sym (w .1 .given .1) ∙ b .next-block .ensures .0)
     _ _ (w .4 .ensures .0) (w .4 .ensures .1)))
     (c .match .came)
 
