@@ -2,6 +2,7 @@
 -- other than these words, or asks anything of a caller, is refused here. Assumes nothing.
 use denote.Ref.{now}
 use Rattle.blocks.proofs.walk.read as read
+use Rattle.blocks.proofs.cursor.Cursor.first as first
 use Rattle.blocks.proofs.cursor.Cursor.step as step
 use Rattle.blocks.proofs.cursor.entry as entry
 use Rattle.writing.proofs.block.write as write
@@ -20,11 +21,14 @@ use Rattle.doors.proofs.wear_write as wear-write
 use Rattle.doors.proofs.wear_rewrite as wear-rewrite
 use Rattle.doors.proofs.wear_post as wear-post
 use Rattle.demands.specs.Claims.{MeetsJust}
-use Rattle.demands.specs.Contracts.{Reads, Steps, Entries, Writes, Rewrites, Fresh, Checks, Posts, LentPosts, Loads, Stores, Begins}
+use Rattle.demands.specs.Contracts.{Reads, Starts, Steps, Entries, Writes, Rewrites, Fresh, Checks, Posts, LentPosts, Loads, Stores, Begins}
 use Rattle.demands.specs.Contracts.{WearReads, WearSteps, WearEntries, WearWrites, WearRewrites, WearPosts}
 
 pub reading : MeetsJust read.ended read.Symbol.routine (λ _ (s, _) r _. Reads (now s) r)
 reading M = read.Met.met
+
+pub starting : MeetsJust first.ended first.Symbol.routine (λ _ _ r _. Starts r)
+starting M = first.Met.met
 
 pub step-taken : MeetsJust step.ended step.Symbol.routine (λ _ (c, (s, _)) r _. Steps (now s) (c .at) r)
 step-taken M = step.Met.met

@@ -8,6 +8,7 @@ use Rattle.blocks.specs.Walks.{readOf, listedReading, readListed}
 use Rattle.blocks.specs.Steps.{stepOf, listedStep, stepListed, entryOf, listedEntry, entryListed}
 use Rattle.blocks.specs.declared.record.Record.{Record}
 use Rattle.blocks.specs.declared.walk.Reading.{Reading}
+use Rattle.blocks.specs.declared.cursor.Cursor.{Cursor}
 use Rattle.blocks.specs.declared.cursor.Step.{Step}
 use Rattle.blocks.specs.declared.cursor.Found.{Found}
 use Rattle.octets.specs.Outcomes.{Outcome, within, answerOf, outputOf, listedWritten, outcomeListed}
@@ -26,6 +27,10 @@ use Rattle.doors.specs.Answers.{isFew, numberOr, cellsOr, readCells, stepCells,
 -- blocks::walk::read: the octets, the answer
 abbrev pub Reads : List ℕ → Reading → Type 0
 Reads s r = (r ≡ readOf s) × (listedReading r ≡ readListed s)
+
+-- blocks::cursor::Cursor::first: the cursor
+abbrev pub Starts : Cursor → Type 0
+Starts r = r .at ≡ 3
 
 -- blocks::cursor::Cursor::step: the octets, the start, the answer
 abbrev pub Steps : List ℕ → ℕ → Step → Type 0

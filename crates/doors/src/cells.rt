@@ -25,7 +25,7 @@ use octets::refusal;
 pub const CELLS: usize = 36;
 
 // The cells of a record.
-pub fn record_cells(record: Record) -> [u64; 36]
+pub fn record_cells(record: Record) -> [u64; CELLS]
     ensures { λ r. ⌜ r ≡ recordCells «record» ⌝ }
 {
     [

@@ -33,6 +33,9 @@ use octets::refusal;
 use writing::block::rewrite;
 use writing::block::write;
 
+// The cells of a step: the offset, the next start, and the record's.
+const STEP_CELLS: usize = 2 + CELLS;
+
 // Values into cells from one on.
 fn lay(cells: &mut [u64], at: usize, values: &[u64])
     requires { ⌜ at + length (now values) ≤ length (now cells) ⌝ }
@@ -75,7 +78,7 @@ pub extern "C" fn wear_step(s: &[u8], start: usize, cells: &mut [u64]) -> u32
     ensures { λ r. ⌜ (r ≡ numberOr (isFew (2 + cellCount) (now (cells .entry))) (stepListed (now (s .entry)) start .number))
         × (now (cells .exit) ≡ cellsOr (isFew (2 + cellCount) (now (cells .entry))) (now (cells .entry)) (stepCells (stepListed (now (s .entry)) start))) ⌝ }
 {
-    if cells.len() < 2 + CELLS {
+    if cells.len() < STEP_CELLS {
         return refusal::OUTPUT_TOO_SHORT as u32;
     }
     let cursor = Cursor { at: start };
@@ -88,7 +91,7 @@ pub extern "C" fn wear_step(s: &[u8], start: usize, cells: &mut [u64]) -> u32
             refusal::ACCEPTED as u32
         }
         Step::Refused(n, at) => {
-            let mut values = [0u64; 38];
+            let mut values = [0u64; STEP_CELLS];
             values[0] = at as u64;
             lay(cells, 0, &values);
             n as u32

@@ -32,7 +32,6 @@ wear-step-spec =
     tie.close
     (tie.spec
     (λ c. search needs)
-    (λ c. search needs)
     (λ c. too-few _ _ _ _ (c .if1 .taken))
     (λ c κs. search needs)
     (λ c. search needs)
