@@ -2,15 +2,15 @@
 use mathlib.Core.Path.{_≡_, refl}
 use mathlib.Core.List.{List, [], _∷_}
 use Prim.Native.Nat.{ℕ, _-_}
-use Rattle.layouts.specs.Formats.{Answer, refused, got, andThen, Format}
+use Rattle.layouts.specs.Formats.{Parsed, refused, got, andThen, Format}
 use Rattle.layouts.specs.Offsets.{itemAt}
 use Rattle.layouts.specs.Categories.{Category}
 use Rattle.layouts.proofs.Alike.{item-alike-at}
 use Rattle.blocks.specs.Records.{layoutOf}
-use Rattle.blocks.specs.Offsets.{specsAt, itemsAt, recordAt}
+use Rattle.blocks.specs.Offsets.{specificationAt, itemsAt, recordAt}
 use Rattle.blocks.specs.Alike.{IfGot, AllAlikeAt, RecordAlikeAt}
 
-then-same : {A B : Type 0} (m : Answer ℕ A) (P : A → ℕ → Type 0) (f g : A → ℕ → Answer ℕ B) → IfGot m P
+then-same : {A B : Type 0} (m : Parsed ℕ A) (P : A → ℕ → Type 0) (f g : A → ℕ → Parsed ℕ B) → IfGot m P
     → ((a : A) (q : ℕ) → P a q → f a q ≡ g a q) → andThen m f ≡ andThen m g
 then-same (refused n) P f g h e = refl
 then-same (got a q) P f g h e = e a q h
@@ -28,4 +28,4 @@ module _ (s t : List ℕ) (len : ℕ) where
   unfolding recordAt
   record-alike-at c at h =
       rw (← h .0)
-      (then-same (specsAt s len (c .most - 1) at) _ _ _ (h .1) (λ gs p l. rw (items-alike-at (layoutOf c gs) p l)))
+      (then-same (specificationAt s len (c .most - 1) at) _ _ _ (h .1) (λ gs p l. rw (items-alike-at (layoutOf c gs) p l)))

@@ -5,26 +5,26 @@ use mathlib.Core.List.{List, [], _∷_}
 use Prim.Native.Nat.{ℕ, zero, suc, _+_, _-_}
 use lib.Dec.{leb}
 use borrow.Author.Tests.{leb-false}
-use Rattle.layouts.specs.Formats.{Answer, refused, got, Format}
+use Rattle.layouts.specs.Formats.{Parsed, refused, got, Format}
 use Rattle.layouts.specs.Categories.{Category}
 use Rattle.layouts.specs.Alike.{SameBefore}
 use Rattle.layouts.proofs.Before.{item-before}
 use Rattle.blocks.specs.Records.{Rec}
 use Rattle.blocks.specs.Blocks.{Block, with, firstAt, recordsAt}
-use Rattle.blocks.specs.Offsets.{specsAt, itemsAt, recordAt}
+use Rattle.blocks.specs.Offsets.{specificationAt, itemsAt, recordAt}
 
 module _ (len : ℕ) (s t : List ℕ) (same : SameBefore len s t) where
-  pub specs-before : (n at : ℕ) → specsAt s len n at ≡ specsAt t len n at
-  unfolding specsAt
-  specs-before zero at = go (leb len at) refl
+  pub specification-before : (n at : ℕ) → specificationAt s len n at ≡ specificationAt t len n at
+  unfolding specificationAt
+  specification-before zero at = go (leb len at) refl
     where
-      go : (b : Bool) → leb len at ≡ b → specsAt s len 0 at ≡ specsAt t len 0 at
+      go : (b : Bool) → leb len at ≡ b → specificationAt s len 0 at ≡ specificationAt t len 0 at
       go true e = rw e
       go false e = rw (e, same at (leb-false len at e))
-  specs-before (suc n) at = go (leb len at) refl (specs-before n (at + 1))
+  specification-before (suc n) at = go (leb len at) refl (specification-before n (at + 1))
     where
-      go : (b : Bool) → leb len at ≡ b → specsAt s len n (at + 1) ≡ specsAt t len n (at + 1)
-          → specsAt s len (suc n) at ≡ specsAt t len (suc n) at
+      go : (b : Bool) → leb len at ≡ b → specificationAt s len n (at + 1) ≡ specificationAt t len n (at + 1)
+          → specificationAt s len (suc n) at ≡ specificationAt t len (suc n) at
       go true e ih = rw e
       go false e ih = rw (e, same at (leb-false len at e), ih)
 
@@ -35,9 +35,9 @@ module _ (len : ℕ) (s t : List ℕ) (same : SameBefore len s t) where
 
   pub record-before : (c : Category) (at : ℕ) → recordAt s len c at ≡ recordAt t len c at
   unfolding recordAt
-  record-before c at = simp (specs-before (c .most - 1) at, items-before)
+  record-before c at = simp (specification-before (c .most - 1) at, items-before)
 
-  first-before : (at : ℕ) (m : Answer ℕ Rec) (f g : ℕ → Block) → ((q : ℕ) → f q ≡ g q)
+  first-before : (at : ℕ) (m : Parsed ℕ Rec) (f g : ℕ → Block) → ((q : ℕ) → f q ≡ g q)
       → firstAt at m f ≡ firstAt at m g
   first-before at (refused n) f g h = refl
   first-before at (got r q) f g h = ap (with r) (h q)

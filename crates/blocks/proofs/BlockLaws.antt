@@ -14,9 +14,9 @@ use Rattle.octets.specs.Numbers.{Octets, number, octets}
 use Rattle.octets.proofs.Numbers.{number-lt, number-octets, length-octets}
 use Rattle.octets.proofs.Cases.{both}
 use Rattle.octets.proofs.Parts.{Octets-drop, Octets-take}
-use Rattle.layouts.specs.Formats.{Answer, refused, got}
+use Rattle.layouts.specs.Formats.{Parsed, refused, got}
 use Rattle.layouts.specs.Categories.{Category, cat23, cat65, cat242, known, category}
-use Rattle.layouts.proofs.Answers.{and-yes}
+use Rattle.layouts.proofs.Parsed.{and-yes}
 use Rattle.layouts.proofs.Windows.{window, window-long}
 use Rattle.blocks.specs.Specification.{zeros, putMarks}
 use Rattle.blocks.specs.Records.{Rec, putRec}
@@ -48,7 +48,7 @@ record-some c r h = rw length-append (omega (arith, marks-some (r .marks) (omega
 
 module _ (len : ℕ) (c : Category) where
   pub records-put : (n : ℕ) (rs : List Rec) → allGood c rs ≡ true → length (putRecs c rs) ≤ n
-      → records n len c (putRecs c rs) ≡ all (c .number) rs
+      → records n len c (putRecs c rs) ≡ all (c .cat) rs
   unfolding putRecs allGood
   records-put n [] h l = records-none len c n
   records-put zero (r ∷ rs) h l =
@@ -68,7 +68,7 @@ OfAll P (all cat rs) = P cat rs
 
 -- what the records that fill octets s are
 pub record Filled (c : Category) (s : List ℕ) (cat : ℕ) (rs : List Rec) : Type 0 where
-  pub same : cat ≡ c .number
+  pub same : cat ≡ c .cat
   pub fine : allGood c rs ≡ true
   pub short : length (putRecs c rs) ≤ length s
   pub some : 0 < length s → 0 < length (putRecs c rs)
@@ -93,18 +93,18 @@ records-filled (suc n) len c (x ∷ s) o = go (recordOf c (x ∷ s)) refl (λ t.
           some = λ k. rw length-append (omega (arith, record-some c r h));
         }
 
-    go : (a : Answer (List ℕ) Rec) → recordOf c (x ∷ s) ≡ a → (f : List ℕ → Block)
+    go : (a : Parsed (List ℕ) Rec) → recordOf c (x ∷ s) ≡ a → (f : List ℕ → Block)
         → ((t : List ℕ) → Octets t → OfAll (Filled c t) (f t)) → OfAll (Filled c (x ∷ s)) (first len (length (x ∷ s)) a f)
     go (refused m) e f ih = tt
     go (got r t) e f ih = more r t e (f t) (ih t (rest-octets c (x ∷ s) r t o e))
 
 -- Blocks
 
-pub category-number : (cat : ℕ) → category cat .number ≡ cat
-category-number cat = go (eqb cat 23) (eqb cat 65) (eqb cat 242) (eqb-true cat 23) (eqb-true cat 65) (eqb-true cat 242)
+pub category-cat : (cat : ℕ) → category cat .cat ≡ cat
+category-cat cat = go (eqb cat 23) (eqb cat 65) (eqb cat 242) (eqb-true cat 23) (eqb-true cat 65) (eqb-true cat 242)
   where
     go : (a b d : Bool) → (a ≡ true → cat ≡ 23) → (b ≡ true → cat ≡ 65) → (d ≡ true → cat ≡ 242)
-        → pick a cat23 (pick b cat65 (pick d cat242 (record { number = cat; most = 0; fields = [] }))) .number ≡ cat
+        → pick a cat23 (pick b cat65 (pick d cat242 (record { cat = cat; most = 0; fields = [] }))) .cat ≡ cat
     go true b d f g h = sym (f refl)
     go false true d f g h = sym (g refl)
     go false false true f g h = sym (h refl)
@@ -146,7 +146,7 @@ module _ (cat : ℕ) (rs : List Rec) (t : List ℕ) where
   block-put k g some fit =
       let body = putRecs (category cat) rs in
       headed-read cat body t fit k some
-      ∙ rw (records-put (3 + length body) (category cat) (3 + length body) rs g (omega arith), category-number cat)
+      ∙ rw (records-put (3 + length body) (category cat) (3 + length body) rs g (omega arith), category-cat cat)
 
 weaker : {P Q : ℕ → List Rec → Type 0} → ((cat : ℕ) (rs : List Rec) → P cat rs → Q cat rs)
     → (b : Block) → OfAll P b → OfAll Q b
@@ -170,7 +170,7 @@ block-sound s o =
     let long = window-long s len (h .fits) 3 in
     subst (OfAll (Sound s)) (records-at s len (h .fits) c len 3)
     (weaker
-    (λ cat' rs w. subst (λ x. Sound s x rs) (sym (w .same ∙ category-number cat)) record {
+    (λ cat' rs w. subst (λ x. Sound s x rs) (sym (w .same ∙ category-cat cat)) record {
       known = h .known;
       fine = w .fine;
       some = w .some (omega (arith, h .least));

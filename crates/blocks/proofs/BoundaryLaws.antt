@@ -10,7 +10,7 @@ use lib.Dec.{leb}
 use lib.ListN.{length, length-map}
 use Rattle.octets.specs.Numbers.{Octets}
 use Rattle.octets.specs.Refusals.{noSuch}
-use Rattle.layouts.specs.Formats.{Answer, refused, got}
+use Rattle.layouts.specs.Formats.{Parsed, refused, got}
 use Rattle.layouts.specs.Categories.{Category, category}
 use Rattle.blocks.specs.Headers.{headerOf}
 use Rattle.blocks.specs.Records.{Rec}
@@ -28,7 +28,7 @@ use Rattle.blocks.specs.declared.cursor.Cursor.{Cursor}
 use Rattle.blocks.specs.declared.cursor.Step.{Step}
 use Rattle.blocks.specs.declared.walk.Reading.{Reading}
 use Rattle.blocks.proofs.HeaderLaws.{header-good}
-use Rattle.blocks.proofs.BlockLaws.{category-number}
+use Rattle.blocks.proofs.BlockLaws.{category-cat}
 use Rattle.blocks.proofs.ReadSteps.{record-within, records-end, records-one}
 use Rattle.blocks.proofs.MeaningLaws.{means-read}
 use Rattle.blocks.proofs.StepLaws.{step-took}
@@ -36,7 +36,7 @@ use Rattle.blocks.proofs.StepLaws.{step-took}
 module _ (s : List ℕ) (len : ℕ) (c : Category) where
   -- what reading from an offset finds: records that go to LEN; or records up to the first faulty one
   abbrev Found : ℕ → Block → Type 0
-  Found at (all cat rs) = (cat ≡ c .number) × Joined s len c at rs len
+  Found at (all cat rs) = (cat ≡ c .cat) × Joined s len c at rs len
   Found at (wrong n end) = (rs : List Rec) × Joined s len c at rs end × (recordAt s len c end ≡ refused n) × (end < len)
 
   -- a record in front
@@ -46,7 +46,7 @@ module _ (s : List ℕ) (len : ℕ) (c : Category) where
 
   module _ (o : Octets s) where
     found-first : (at : ℕ) → at < len → (f : ℕ → Block) → ((q : ℕ) → at < q → q ≤ len → Found q (f q))
-        → (m : Answer ℕ Rec) → recordAt s len c at ≡ m → Found at (firstAt at m f)
+        → (m : Parsed ℕ Rec) → recordAt s len c at ≡ m → Found at (firstAt at m f)
     found-first at l f k (refused n) e = ([], refl, e, l)
     found-first at l f k (got r q) e =
         let (a, b) = record-within s len c o at q r e in
@@ -69,7 +69,7 @@ module _ (s : List ℕ) (len : ℕ) (c : Category) where
             (found-first at more (λ q. recordsAt s len c m q) ih (recordAt s len c at) refl)
 
   -- records that go to LEN are those that reading finds
-  joined-records : (m at : ℕ) (rs : List Rec) → len - at ≤ m → Joined s len c at rs len → recordsAt s len c m at ≡ all (c .number) rs
+  joined-records : (m at : ℕ) (rs : List Rec) → len - at ≤ m → Joined s len c at rs len → recordsAt s len c m at ≡ all (c .cat) rs
   joined-records m at [] k j = records-end s len c m at (omega arith)
   joined-records m at (r ∷ rs) k (q, e, l, h, j) =
       records-one s len c m (m - 1) at (omega arith) (omega arith)
@@ -103,7 +103,7 @@ full-all : (s : List ℕ) (cat len' len n : ℕ) → headerOf s ≡ Head.Good ca
 full-all s cat len' len n h (wrong m at) e w a = absurd (not-accepted a)
 full-all s cat len' len n h (all cat' rs) e w a =
     let same-len : len' ≡ len = cc in
-    let same-cat : cat' ≡ cat = w .0 ∙ category-number cat in
+    let same-cat : cat' ≡ cat = w .0 ∙ category-cat cat in
     let count : length rs ≡ n = cc in
     subst (λ l. Full s l n) same-len (cat, rs, h, w .1, count, rw same-cat at e)
 

@@ -13,7 +13,7 @@ use lib.ListN.{length, getD}
 use Rattle.octets.specs.Choice.{pick, odd}
 use Rattle.octets.specs.Numbers.{Octets, number}
 use Rattle.octets.proofs.Cases.{choose, both}
-use Rattle.layouts.specs.Formats.{Answer, refused, got, andThen, Format, Trace, fitsIn}
+use Rattle.layouts.specs.Formats.{Parsed, refused, got, andThen, Format, Trace, fitsIn}
 use Rattle.layouts.specs.Offsets.{runAt, itemAt}
 use Rattle.layouts.specs.Layouts.{Layout, unused, fixed, extended, repeated, explicit, isUnused, format, kindOf}
 use Rattle.layouts.specs.Ends.{endOf, roomEnd, countedEnd, chainEnd, kindEnd}
@@ -27,7 +27,7 @@ use Rattle.layouts.specs.declared.ends.Kind.{Kind}
 use Rattle.layouts.specs.declared.ends.Kind.the-variants.{Spare, Fixed, Extended, Repeated, Explicit}
 use Rattle.layouts.specs.declared.form.Form.{Form}
 use Rattle.blocks.specs.Headers.{headerOf}
-use Rattle.blocks.specs.Offsets.{specsAt}
+use Rattle.blocks.specs.Offsets.{specificationAt}
 use Rattle.blocks.specs.Faults.{TooShort, Unknown, LenLow, FxSet, Passes, NoCount, PastLast, OutOfRange, Long, Cut}
 use Rattle.blocks.specs.declared.header.Head.{Head}
 use Rattle.blocks.proofs.HeaderLaws.{header-cases, Headed}
@@ -105,8 +105,8 @@ module _ (s : List ℕ) where
       (λ w. neither head-good (λ u. omega arith))
 
   -- no other number refuses a header
-  pub header-numbers : (n : ℕ) → headerOf s ≡ Head.Refused n → (1 ≤ n) × (n ≤ 3)
-  header-numbers n =
+  pub header-refusals : (n : ℕ) → headerOf s ≡ Head.Refused n → (1 ≤ n) × (n ≤ 3)
+  header-refusals n =
       header-cases s (λ (h : Head). h ≡ Head.Refused n → (1 ≤ n) × (n ≤ 3))
       (λ l e. is 1 e (omega arith))
       (λ l k e. is 2 e (omega arith))
@@ -125,7 +125,7 @@ differs d e = d (cc)
 at-refused : {q n : ℕ} → At q ≡ Refused n → ⊥
 at-refused e = let z : _≡_ {A = ℕ} 0 1 = cc in omega arith
 
-refused-end : {A : Type 0} (m : Answer ℕ A) (n : ℕ) → (m ≡ refused n) ↔ (endOf m ≡ Refused n)
+refused-end : {A : Type 0} (m : Parsed ℕ A) (n : ℕ) → (m ≡ refused n) ↔ (endOf m ≡ Refused n)
 refused-end (refused k) n = (λ e. cc, λ e. cc)
 refused-end (got a q) n = neither (λ e. (let z : _≡_ {A = ℕ} 0 1 = cc in omega arith)) at-refused
 
@@ -217,19 +217,19 @@ module _ (s : List ℕ) (len : ℕ) where
   Either r (At q) = Unit {0}
   Either r (Refused n) = (n ≡ 7) ⊎ (n ≡ r)
 
-  chain-numbers : (r size m at : ℕ) → Either r (chainEnd s len r size m at)
+  chain-refusals : (r size m at : ℕ) → Either r (chainEnd s len r size m at)
   unfolding chainEnd
-  chain-numbers r size zero at =
+  chain-refusals r size zero at =
       choose (Either r) (ltb (len - at) size) (λ a. inl refl)
       (λ a. choose (Either r) (odd (getD s (at + (size - 1)) 0)) (λ f. inr refl) (λ f. tt))
-  chain-numbers r size (suc m) at =
+  chain-refusals r size (suc m) at =
       choose (Either r) (ltb (len - at) size) (λ a. inl refl)
-      (λ a. choose (Either r) (odd (getD s (at + (size - 1)) 0)) (λ f. chain-numbers r 1 m (at + size)) (λ f. tt))
+      (λ a. choose (Either r) (odd (getD s (at + (size - 1)) 0)) (λ f. chain-refusals r 1 m (at + size)) (λ f. tt))
 
   -- A specification
   module _ (c : Category) (some : 1 ≤ c .most) (at : ℕ) where
-    abbrev specification : Answer ℕ (List ℕ)
-    specification = specsAt s len (c .most - 1) at
+    abbrev specification : Parsed ℕ (List ℕ)
+    specification = specificationAt s len (c .most - 1) at
 
     all : suc (c .most - 1) ≡ c .most
     all = omega arith
@@ -246,8 +246,8 @@ module _ (s : List ℕ) (len : ℕ) where
     spec-given-7 = Iff·trans (spec-given 7) (rw all at (octets-7 4 (λ e. omega arith) (c .most - 1) at))
 
     -- no other number refuses a specification
-    pub spec-numbers : (n : ℕ) → specification ≡ refused n → (n ≡ 4) ⊎ (n ≡ 7)
-    spec-numbers n h = go (subst (Either 4) (spec-given n .0 h) (chain-numbers 4 1 (c .most - 1) at))
+    pub spec-refusals : (n : ℕ) → specification ≡ refused n → (n ≡ 4) ⊎ (n ≡ 7)
+    spec-refusals n h = go (subst (Either 4) (spec-given n .0 h) (chain-refusals 4 1 (c .most - 1) at))
       where
         go : (n ≡ 7) ⊎ (n ≡ 4) → (n ≡ 4) ⊎ (n ≡ 7)
         go (inl e) = inr e
@@ -350,18 +350,18 @@ module _ (s : List ℕ) (len : ℕ) where
   Within (At q) = Unit {0}
   Within (Refused n) = (7 ≤ n) × (n ≤ 9)
 
-  room-numbers : (at size : ℕ) → Within (roomEnd len at size)
-  room-numbers at size = choose Within (ltb (len - at) size) (λ a. omega arith) (λ a. tt)
+  room-refusals : (at size : ℕ) → Within (roomEnd len at size)
+  room-refusals at size = choose Within (ltb (len - at) size) (λ a. omega arith) (λ a. tt)
 
-  counted-numbers : (e size at : ℕ) → Within (countedEnd s len e size at)
-  counted-numbers e size at =
+  counted-refusals : (e size at : ℕ) → Within (countedEnd s len e size at)
+  counted-refusals e size at =
       choose Within (leb len at) (λ a. omega arith)
-      (λ a. choose Within (leb (getD s at 0) e) (λ b. omega arith) (λ b. room-numbers (at + 1) ((getD s at 0 - e) * size)))
+      (λ a. choose Within (leb (getD s at 0) e) (λ b. omega arith) (λ b. room-refusals (at + 1) ((getD s at 0 - e) * size)))
 
-  extended-numbers : (r : End) → Either 9 r → Within r
-  extended-numbers (At q) h = tt
-  extended-numbers (Refused n) (inl e) = omega arith
-  extended-numbers (Refused n) (inr e) = omega arith
+  extended-refusals : (r : End) → Either 9 r → Within r
+  extended-refusals (At q) h = tt
+  extended-refusals (Refused n) (inl e) = omega arith
+  extended-refusals (Refused n) (inr e) = omega arith
 
   -- by the kind
   kind-given-7 : (k : Kind) (at : ℕ) → Sized k → (kindEnd s len k at ≡ Refused 7) ↔ Passes s len k at
@@ -396,7 +396,7 @@ module _ (s : List ℕ) (len : ℕ) where
       choose (λ (r : End). (r ≡ Refused 8) ↔ ⊥) (ltb (len - at) size)
       (λ a. neither (differs (λ e. omega arith)) (λ w. w))
       (λ a. neither at-refused (λ w. w))
-  kind-given-8 (Extended size more) at = (λ h. go (subst (Either 9) h (chain-numbers 9 size more at)), λ w. absurd w)
+  kind-given-8 (Extended size more) at = (λ h. go (subst (Either 9) h (chain-refusals 9 size more at)), λ w. absurd w)
     where
       go : _≡_ {A = ℕ} 8 7 ⊎ _≡_ {A = ℕ} 8 9 → ⊥
       go (inl e) = omega arith
@@ -423,13 +423,13 @@ module _ (s : List ℕ) (len : ℕ) where
 
   kind-within : (l : Layout) (at : ℕ) → isUnused l ≡ false → Within (kindEnd s len (kindOf l) at)
   kind-within unused at h = absurd (true≢false h)
-  kind-within (fixed g) at h = room-numbers at (g .wide)
-  kind-within (extended g hs) at h = extended-numbers (chainEnd s len 9 (g .wide) (length hs) at) (chain-numbers 9 (g .wide) (length hs) at)
-  kind-within (repeated g) at h = counted-numbers 0 (g .wide) at
-  kind-within explicit at h = counted-numbers 1 1 at
+  kind-within (fixed g) at h = room-refusals at (g .wide)
+  kind-within (extended g hs) at h = extended-refusals (chainEnd s len 9 (g .wide) (length hs) at) (chain-refusals 9 (g .wide) (length hs) at)
+  kind-within (repeated g) at h = counted-refusals 0 (g .wide) at
+  kind-within explicit at h = counted-refusals 1 1 at
 
-  kind-numbers : (l : Layout) (at n : ℕ) → isUnused l ≡ false → kindEnd s len (kindOf l) at ≡ Refused n → (7 ≤ n) × (n ≤ 9)
-  kind-numbers l at n u h = subst Within h (kind-within l at u)
+  kind-refusals : (l : Layout) (at n : ℕ) → isUnused l ≡ false → kindEnd s len (kindOf l) at ≡ Refused n → (7 ≤ n) × (n ≤ 9)
+  kind-refusals l at n u h = subst Within h (kind-within l at u)
 
 sized : (l : Layout) → sound l ≡ true → Sized (kindOf l)
 sized unused h = tt
@@ -453,32 +453,32 @@ module _ (s : List ℕ) (len : ℕ) where
   form-given-9 f at = kind-given-9 s len (kindOf (layout f)) at (sized (layout f) (forms-sound f))
 
   -- no other number refuses an item that is not spare before its values
-  pub form-numbers : (f : Form) (at n : ℕ) → isUnused (layout f) ≡ false → kindEnd s len (kindOf (layout f)) at ≡ Refused n
+  pub form-refusals : (f : Form) (at n : ℕ) → isUnused (layout f) ≡ false → kindEnd s len (kindOf (layout f)) at ≡ Refused n
       → (7 ≤ n) × (n ≤ 9)
-  form-numbers f at n u h = kind-numbers s len (layout f) at n u h
+  form-refusals f at n u h = kind-refusals s len (layout f) at n u h
 
 -- An item, to its end and then its values
 
-answer-differs : {A : Type 0} {n m : ℕ} → (n ≡ m → ⊥) → _≡_ {A = Answer ℕ A} (refused n) (refused m) → ⊥
+answer-differs : {A : Type 0} {n m : ℕ} → (n ≡ m → ⊥) → _≡_ {A = Parsed ℕ A} (refused n) (refused m) → ⊥
 answer-differs d e = d (cc)
 
 pub answer-got : {R A : Type 0} {a : A} {r : R} {n : ℕ} → got a r ≡ refused n → ⊥
 answer-got e = let z : _≡_ {A = ℕ} 0 1 = cc in omega arith
 
 -- the values of an item that ended are judged
-abbrev judged : Format → Trace → ℕ → Answer ℕ Trace
+abbrev judged : Format → Trace → ℕ → Parsed ℕ Trace
 judged f tr q = pick (fitsIn f tr) (got tr q) (refused 11)
 
-judged-other : (f : Format) (n : ℕ) → (n ≡ 11 → ⊥) → (m : Answer ℕ Trace) → (andThen m (judged f) ≡ refused n) ↔ (endOf m ≡ Refused n)
+judged-other : (f : Format) (n : ℕ) → (n ≡ 11 → ⊥) → (m : Parsed ℕ Trace) → (andThen m (judged f) ≡ refused n) ↔ (endOf m ≡ Refused n)
 judged-other f n d (refused k) = (λ e. cc, λ e. cc)
 judged-other f n d (got tr q) =
-    choose (λ (r : Answer ℕ Trace). (r ≡ refused n) ↔ (At q ≡ Refused n)) (fitsIn f tr)
+    choose (λ (r : Parsed ℕ Trace). (r ≡ refused n) ↔ (At q ≡ Refused n)) (fitsIn f tr)
     (λ a. neither answer-got at-refused)
     (λ a. neither (answer-differs (λ e. d (sym e))) at-refused)
 
 judged-11 : (f : Format) (tr : Trace) (q : ℕ) → (judged f tr q ≡ refused 11) ↔ (fitsIn f tr ≡ false)
 judged-11 f tr q =
-    choose (λ (r : Answer ℕ Trace). (r ≡ refused 11) ↔ (fitsIn f tr ≡ false)) (fitsIn f tr)
+    choose (λ (r : Parsed ℕ Trace). (r ≡ refused 11) ↔ (fitsIn f tr ≡ false)) (fitsIn f tr)
     (λ a. neither answer-got (λ b. false≢true (sym b ∙ a)))
     (λ a. both-hold a)
 
@@ -504,12 +504,12 @@ module _ (s : List ℕ) (len : ℕ) (o : Octets s) (f : Form) (at : ℕ) where
     where
       low : (l : Layout) → kindEnd s len (kindOf l) at ≡ Refused 11 → ⊥
       low unused h = differs (λ e. omega arith) h
-      low (fixed g) h = omega (arith, kind-numbers s len (fixed g) at 11 refl h)
-      low (extended g hs) h = omega (arith, kind-numbers s len (extended g hs) at 11 refl h)
-      low (repeated g) h = omega (arith, kind-numbers s len (repeated g) at 11 refl h)
-      low explicit h = omega (arith, kind-numbers s len explicit at 11 refl h)
+      low (fixed g) h = omega (arith, kind-refusals s len (fixed g) at 11 refl h)
+      low (extended g hs) h = omega (arith, kind-refusals s len (extended g hs) at 11 refl h)
+      low (repeated g) h = omega (arith, kind-refusals s len (repeated g) at 11 refl h)
+      low explicit h = omega (arith, kind-refusals s len explicit at 11 refl h)
 
-      go : (m : Answer ℕ Trace) → runAt s len form at ≡ m → (andThen m (judged form) ≡ refused 11) ↔ OutOfRange s len f at
+      go : (m : Parsed ℕ Trace) → runAt s len form at ≡ m → (andThen m (judged form) ≡ refused 11) ↔ OutOfRange s len f at
       go (refused k) e =
           let is : Refused k ≡ end = rw e at ends in
           (λ h. absurd (low (layout f) (cc)), λ w. absurd (at-refused (sym (w .1) ∙ sym is)))
@@ -519,9 +519,9 @@ module _ (s : List ℕ) (len : ℕ) (o : Octets s) (f : Form) (at : ℕ) where
           (rw (run-trace s len form at tr q e) ((λ h. (q, sym is, h)), (λ w. w .2)))
 
   -- no other number refuses an item that is not spare
-  pub item-numbers : (n : ℕ) → isUnused (layout f) ≡ false → itemAt s len form at ≡ refused n → ((7 ≤ n) × (n ≤ 9)) ⊎ (n ≡ 11)
-  item-numbers n u h = go (eqb n 11) refl
+  pub item-refusals : (n : ℕ) → isUnused (layout f) ≡ false → itemAt s len form at ≡ refused n → ((7 ≤ n) × (n ≤ 9)) ⊎ (n ≡ 11)
+  item-refusals n u h = go (eqb n 11) refl
     where
       go : (b : Bool) → eqb n 11 ≡ b → ((7 ≤ n) × (n ≤ 9)) ⊎ (n ≡ 11)
       go true e = inr (eqb-true n 11 e)
-      go false e = inl (form-numbers s len f at n u (item-given n (eqb-false n 11 e) .0 h))
+      go false e = inl (form-refusals s len f at n u (item-given n (eqb-false n 11 e) .0 h))

@@ -26,35 +26,35 @@ all =
     Form.Spare ∷ Form.Source ∷ Form.MessageType ∷ Form.Service ∷ Form.Identification ∷ Form.Time ∷ Form.Batch ∷ Form.Sdps ∷ Form.Report
     ∷ Form.Station ∷ Form.Configuration ∷ Form.Range ∷ Form.Status ∷ Form.Statistics ∷ Form.Versions ∷ Form.Expansion ∷ Form.Purpose ∷ []
 
-in-number : (f : Form) → getD all (formNumber f) Form.Spare ≡ f
-in-number form.Spare = refl
-in-number form.Source = refl
-in-number form.MessageType = refl
-in-number form.Service = refl
-in-number form.Identification = refl
-in-number form.Time = refl
-in-number form.Batch = refl
-in-number form.Sdps = refl
-in-number form.Report = refl
-in-number form.Station = refl
-in-number form.Configuration = refl
-in-number form.Range = refl
-in-number form.Status = refl
-in-number form.Statistics = refl
-in-number form.Versions = refl
-in-number form.Expansion = refl
-in-number form.Purpose = refl
+in-form-number : (f : Form) → getD all (formNumber f) Form.Spare ≡ f
+in-form-number form.Spare = refl
+in-form-number form.Source = refl
+in-form-number form.MessageType = refl
+in-form-number form.Service = refl
+in-form-number form.Identification = refl
+in-form-number form.Time = refl
+in-form-number form.Batch = refl
+in-form-number form.Sdps = refl
+in-form-number form.Report = refl
+in-form-number form.Station = refl
+in-form-number form.Configuration = refl
+in-form-number form.Range = refl
+in-form-number form.Status = refl
+in-form-number form.Statistics = refl
+in-form-number form.Versions = refl
+in-form-number form.Expansion = refl
+in-form-number form.Purpose = refl
 
 -- forms with the same number are the same
-pub same-number : (f g : Form) → formNumber f ≡ formNumber g → f ≡ g
-same-number f g h = sym (in-number f) ∙ ap (λ (n : ℕ). getD all n Form.Spare) h ∙ in-number g
+pub same-form-number : (f g : Form) → formNumber f ≡ formNumber g → f ≡ g
+same-form-number f g h = sym (in-form-number f) ∙ ap (λ (n : ℕ). getD all n Form.Spare) h ∙ in-form-number g
 
 -- no number is past the last: only the first form would be found there
-pub number-few : (f : Form) → formNumber f < 17
-number-few f =
+pub form-number-few : (f : Form) → formNumber f < 17
+form-number-few f =
     test (ltb (formNumber f) 17) (ltb-true (formNumber f) 17)
     (λ t.
-    let past : Form.Spare ≡ f = sym (List·getD-eq-default all Form.Spare {n = formNumber f} (ltb-false (formNumber f) 17 t)) ∙ in-number f in
+    let past : Form.Spare ≡ f = sym (List·getD-eq-default all Form.Spare {n = formNumber f} (ltb-false (formNumber f) 17 t)) ∙ in-form-number f in
     omega (arith, ap formNumber past))
 
 -- Fields
@@ -66,7 +66,7 @@ field-form (g ∷ fs) f n h = go (eqb (formNumber g) (formNumber f)) refl (field
   where
     go : (b : Bool) → eqb (formNumber g) (formNumber f) ≡ b → (k : ℕ) → ((m : ℕ) → k ≡ suc m → getD fs m Form.Spare ≡ f)
         → pick b 1 (fieldAfter k) ≡ suc n → getD (g ∷ fs) n Form.Spare ≡ f
-    go true e k ih h = let z : n ≡ 0 = omega arith in rw z (same-number g f (eqb-true (formNumber g) (formNumber f) e))
+    go true e k ih h = let z : n ≡ 0 = omega arith in rw z (same-form-number g f (eqb-true (formNumber g) (formNumber f) e))
     go false e zero ih h = absurd (omega arith)
     go false e (suc m) ih h = let z : n ≡ suc m = omega arith in rw z (ih m refl)
 
@@ -99,10 +99,10 @@ owns-at fs (g ∷ gs) k (suc n) h l =
 
 -- what a typed record needs of a category: no form at two fields, and entries of one kind
 pub record Forms (c : Category) : Type 0 where
-  pub same : category (c .number) ≡ c
+  pub same : category (c .cat) ≡ c
   pub own : owns (c .fields) (c .fields) 0 ≡ true
-  pub statistics : (i : ℕ) → fieldFor (c .fields) Form.Statistics ≡ suc i → eqb (c .number) 242 ≡ false
-  pub versions : (i : ℕ) → fieldFor (c .fields) Form.Versions ≡ suc i → eqb (c .number) 242 ≡ true
+  pub statistics : (i : ℕ) → fieldFor (c .fields) Form.Statistics ≡ suc i → eqb (c .cat) 242 ≡ false
+  pub versions : (i : ℕ) → fieldFor (c .fields) Form.Versions ≡ suc i → eqb (c .cat) 242 ≡ true
 
 pub forms : (n : ℕ) → known n ≡ true → Forms (category n)
 forms =

@@ -7,7 +7,7 @@ use lib.Dec.{eqb}
 use lib.ListN.{length}
 use Rattle.layouts.specs.Formats.{Format, Trace, fitsIn}
 use Rattle.layouts.specs.Categories.{Category}
-use Rattle.blocks.specs.Records.{Rec, layoutOf, marksRefusal, present}
+use Rattle.blocks.specs.Records.{Rec, layoutOf, specificationRefusal, present}
 
 unfoldable pub itemsFit : List Format → List Trace → Bool
 itemsFit [] [] = true
@@ -18,7 +18,7 @@ itemsFit (f ∷ fs) (tr ∷ trs) = fitsIn f tr && itemsFit fs trs
 unfoldable pub good : Category → Rec → Bool
 good c r =
     eqb (length (r .marks)) (suc (c .most - 1))
-    && (eqb (marksRefusal c (r .marks)) 0
+    && (eqb (specificationRefusal c (r .marks)) 0
     && (itemsFit (layoutOf c (r .marks)) (r .items)
     && present c (r .marks) (r .items)))
 

@@ -6,14 +6,14 @@ use Prim.Native.Nat.{ℕ, zero, suc, _<_, _≤_}
 use native.Mathlib.Omega.{arith}
 use lib.ListN.{length, getD}
 use Rattle.octets.specs.Choice.{pick}
-use Rattle.layouts.specs.Formats.{Answer, refused, got, Format, done, Trace, fitsIn}
+use Rattle.layouts.specs.Formats.{Parsed, refused, got, Format, done, Trace, fitsIn}
 use Rattle.layouts.specs.Offsets.{runAt, itemAt}
 use Rattle.layouts.specs.Layouts.{format}
 use Rattle.layouts.specs.Ends.{endOf}
 use Rattle.layouts.specs.Tables.{layout}
 use Rattle.layouts.specs.declared.ends.End.the-variants.{At, Refused}
 use Rattle.layouts.specs.declared.form.Form.{Form}
-use Rattle.layouts.proofs.Answers.{through}
+use Rattle.layouts.proofs.Parsed.{through}
 use Rattle.layouts.proofs.Alike.{item-alike-at}
 use Rattle.layouts.specs.Alike.{SameBefore}
 use Rattle.layouts.proofs.Before.{run-before}
@@ -113,14 +113,14 @@ module _ (len : ℕ) (s t : List ℕ) where
       let (tr, p, e, h') = through (itemAt s len f at) h in
       let (trs', q', e', last) = through (itemsAt s len fs p) h' in
       let there : itemAt t len f at ≡ got tr p = sym (item-alike-at s t len f at (a .0)) ∙ e in
-      let rest : AllAlikeAt s t len fs p = subst (λ (m : Answer ℕ Trace). IfGot m (λ tr q. AllAlikeAt s t len fs q)) e (a .1) in
+      let rest : AllAlikeAt s t len fs p = subst (λ (m : Parsed ℕ Trace). IfGot m (λ tr q. AllAlikeAt s t len fs q)) e (a .1) in
       rw (item-run s len f at p tr e, item-run t len f at p tr there) (start-alike fs p q' trs' rest e' n)
 
 -- where an item stops, by its end
-pub stop-at : {A : Type 0} (at q : ℕ) (m : Answer ℕ A) → endOf m ≡ At q → q ≡ stopOf at m
+pub stop-at : {A : Type 0} (at q : ℕ) (m : Parsed ℕ A) → endOf m ≡ At q → q ≡ stopOf at m
 stop-at at q (refused n) h = let z : _≡_ {A = ℕ} 0 1 = cc in absurd (omega arith)
 stop-at at q (got a p) h = cc
 
-pub stop-refused : {A : Type 0} (at n : ℕ) (m : Answer ℕ A) → endOf m ≡ Refused n → at ≡ stopOf at m
+pub stop-refused : {A : Type 0} (at n : ℕ) (m : Parsed ℕ A) → endOf m ≡ Refused n → at ≡ stopOf at m
 stop-refused at n (refused m) h = refl
 stop-refused at n (got a p) h = let z : _≡_ {A = ℕ} 0 1 = cc in absurd (omega arith)

@@ -8,7 +8,7 @@ use native.Mathlib.Omega.{arith}
 use lib.ListN.{length, length-append}
 use Rattle.octets.specs.Choice.{odd}
 use Rattle.octets.specs.Numbers.{Octets}
-use Rattle.layouts.specs.Formats.{Answer, refused, got}
+use Rattle.layouts.specs.Formats.{Parsed, refused, got}
 use Rattle.layouts.specs.Categories.{Category, category, known}
 use Rattle.blocks.specs.Records.{Rec, layoutOf, putItems}
 use Rattle.blocks.specs.Blocks.{Block, wrong, all, with, recordsAt, blockOf, headed}
@@ -16,7 +16,7 @@ use Rattle.blocks.proofs.Suffixes.{recordOf, first, records, records-st
 use Rattle.blocks.proofs.WindowLaws.{records-whole}
 use Rattle.blocks.proofs.RecordLaws.{record-any, record-held}
 use Rattle.blocks.proofs.RecordTheorems.{normal-short, rest-octets, second-zero}
-use Rattle.blocks.proofs.BlockLaws.{record-some, category-number, headed-read}
+use Rattle.blocks.proofs.BlockLaws.{record-some, category-cat, headed-read}
 
 record-behind : (c : Category) (u v y : List ℕ) (r : Rec) → Octets u → recordOf c u ≡ got r v → recordOf c (u ++ y) ≡ got r (v ++ y)
 record-behind c u v y r o h =
@@ -49,7 +49,7 @@ module _ (c : Category) (cat : ℕ) where
   reads-first len u v r ts some h l ih zero k = absurd (omega arith)
   reads-first len u v r ts some h l ih (suc n) k = records-step len c n u some ∙ rw (h, ih n (omega arith))
 
-  module _ (same : c .number ≡ cat) where
+  module _ (same : c .cat ≡ cat) where
     reads-none : (len : ℕ) → Reads len [] []
     reads-none len k l = records-none len c k ∙ ap (λ (n : ℕ). all n []) same
 
@@ -62,7 +62,7 @@ module _ (c : Category) (cat : ℕ) where
     reads-join (suc n) len len' y ts w [] rs o e = let none : [] ≡ rs = cc in rw (← none) w
     reads-join (suc n) len len' y ts w (x ∷ a) rs o e = go (recordOf c (x ∷ a)) refl (reads-join n len len' y ts w) e
       where
-        go : (m : Answer (List ℕ) Rec) → recordOf c (x ∷ a) ≡ m
+        go : (m : Parsed (List ℕ) Rec) → recordOf c (x ∷ a) ≡ m
             → ((v : List ℕ) (rs : List Rec) → Octets v → records n len c v ≡ all cat rs → Reads len' (v ++ y) (rs ++ ts))
             → first len (length (x ∷ a)) m (λ t. records n len c t) ≡ all cat rs → Reads len' ((x ∷ a) ++ y) (rs ++ ts)
         go (refused k) f ih h = absurd (not-all h)
@@ -85,7 +85,7 @@ module _ (c : Category) (cat : ℕ) where
     reads-second zero len len' x b ts two even o e = absurd (not-all e)
     reads-second (suc n) len len' x b ts two even o e = go (recordOf c (x ∷ b)) refl e
       where
-        go : (m : Answer (List ℕ) Rec) → recordOf c (x ∷ b) ≡ m → first len (length (x ∷ b)) m (λ t. records n len c t) ≡ all cat ts
+        go : (m : Parsed (List ℕ) Rec) → recordOf c (x ∷ b) ≡ m → first len (length (x ∷ b)) m (λ t. records n len c t) ≡ all cat ts
             → Reads len' ((x + 1) ∷ 0 ∷ b) ts
         go (refused k) f h = absurd (not-all h)
         go (got r v) f h =
@@ -99,7 +99,7 @@ module _ (c : Category) (cat : ℕ) where
 pub whole-reads : (cat n : ℕ) (y : List ℕ) (ts : List Rec) → Octets y → recordsAt y (length y) (category cat) n 0 ≡ all cat ts
     → (k len : ℕ) → length y ≤ k → records k len (category cat) y ≡ all cat ts
 whole-reads cat n y ts o e k len l =
-    reads-any (category cat) cat (category-number cat) n (length y) len y ts o (records-whole (category cat) n y ∙ e) k l
+    reads-any (category cat) cat (category-cat cat) n (length y) len y ts o (records-whole (category cat) n y ∙ e) k l
 
 -- A block in which one record, behind whole records a, has a second specification octet of zero has the records of the block without it.
 module _ (cat : ℕ) (k : known cat ≡ true) (two : 2 ≤ category cat .most) (a b : List ℕ) (x : ℕ) (o : Octets a) (o' : Octets (x ∷ b))
@@ -108,7 +108,7 @@ module _ (cat : ℕ) (k : known cat ≡ true) (two : 2 ≤ category cat .most) (
   pub second-records : (blockOf (headed cat (a ++ ((x + 1) ∷ 0 ∷ b)) ++ t) ≡ all cat (rs ++ ts)) × (blockOf (headed cat (a ++ (x ∷ b)) ++ t) ≡ all cat (rs ++ ts))
   second-records =
       let c = category cat in
-      let same = category-number cat in
+      let same = category-cat cat in
       let m = length a + length (x ∷ b) in
       let e' = whole-reads cat n a rs o e m 0 (omega arith) in
       let f' = whole-reads cat n (x ∷ b) ts o' f m 0 (omega arith) in

@@ -7,7 +7,7 @@ use lib.Dec.{leb, ltb, eqb}
 use Rattle.octets.specs.Choice.{pick}
 use Rattle.octets.specs.Numbers.{number}
 use Rattle.octets.specs.Refusals.{noSuch}
-use Rattle.layouts.specs.Formats.{Answer, refused, got}
+use Rattle.layouts.specs.Formats.{Parsed, refused, got}
 use Rattle.layouts.specs.Categories.{Category, category}
 use Rattle.items.specs.Typed.{counterOf, versionOf}
 use Rattle.blocks.specs.Headers.{headerOf}
@@ -38,23 +38,23 @@ read-listed s = rw (read-block s) (listed-block (number 2 s 1) (blockOf s))
 -- what is made of a step's answer is made of its refusal or of its typed record
 module _ {A B : Type 0} (f : A → B) {no : ℕ → ℕ → A} {yes : Record → ℕ → A} {no' : ℕ → ℕ → B} {yes' : Record → ℕ → B}
     (of-no : (n at : ℕ) → f (no n at) ≡ no' n at) (of-yes : (t : Record) (q : ℕ) → f (yes t q) ≡ yes' t q) where
-  taken-made : (s : List ℕ) (len : ℕ) (c : Category) (at : ℕ) (m : Answer ℕ Rec) → f (takenBy no yes s len c at m) ≡ takenBy no' yes' s len c at m
+  taken-made : (s : List ℕ) (len : ℕ) (c : Category) (at : ℕ) (m : Parsed ℕ Rec) → f (takenBy no yes s len c at m) ≡ takenBy no' yes' s len c at m
   taken-made s len c at (refused n) = of-no n at
   taken-made s len c at (got r q) = of-yes _ q
 
-  take-made : (s : List ℕ) (len number at : ℕ) → f (takeBy no yes s len number at) ≡ takeBy no' yes' s len number at
+  take-made : (s : List ℕ) (len cat at : ℕ) → f (takeBy no yes s len cat at) ≡ takeBy no' yes' s len cat at
   unfolding takeBy
-  take-made s len number at = taken-made s len (category number) at (recordAt s len (category number) at)
+  take-made s len cat at = taken-made s len (category cat) at (recordAt s len (category cat) at)
 
   from-made : (s : List ℕ) (start : ℕ) (h : Head) → f (stepFrom no yes s start h) ≡ stepFrom no' yes' s start h
   from-made s start (head.Refused n) = of-no n 0
-  from-made s start (head.Good number len) = go (ltb start 3 || leb len start)
+  from-made s start (head.Good cat len) = go (ltb start 3 || leb len start)
     where
       go : (b : Bool)
-          → f (pick b (no noSuch 0) (takeBy no yes s len number start))
-          ≡ pick b (no' noSuch 0) (takeBy no' yes' s len number start)
+          → f (pick b (no noSuch 0) (takeBy no yes s len cat start))
+          ≡ pick b (no' noSuch 0) (takeBy no' yes' s len cat start)
       go true = of-no noSuch 0
-      go false = take-made s len number start
+      go false = take-made s len cat start
 
   pub step-made : (s : List ℕ) (start : ℕ) → f (stepBy no yes s start) ≡ stepBy no' yes' s start
   unfolding stepBy

@@ -13,17 +13,17 @@ use Rattle.octets.specs.Choice.{pick, odd}
 use Rattle.octets.specs.Numbers.{Octets}
 use Rattle.octets.specs.Refusals.{longSpecification, spareMarked, noneMarked}
 use Rattle.octets.proofs.Cases.{test, choose}
-use Rattle.layouts.specs.Formats.{Answer, refused, got, andThen}
+use Rattle.layouts.specs.Formats.{Parsed, refused, got, andThen}
 use Rattle.layouts.specs.Ends.{endOf, chainEnd}
 use Rattle.layouts.specs.Categories.{Category}
 use Rattle.layouts.specs.declared.form.Form.{Form}
-use Rattle.layouts.proofs.Answers.{OfGot, of-pick}
+use Rattle.layouts.proofs.Parsed.{OfGot, of-pick}
 use Rattle.layouts.proofs.KindEnds.{none-left, end-then}
 use Rattle.blocks.specs.Specification.{flags}
-use Rattle.layouts.specs.Presence.{Row, meets}
+use Rattle.layouts.specs.Presence.{FieldNeed, meets}
 use Rattle.blocks.specs.Marks.{marksOf, flagsOf, groupsOf}
-use Rattle.blocks.specs.Records.{formats, marksSpare, unmarked, flagsRefusal, numberRefusal}
-use Rattle.blocks.specs.Offsets.{specsAt}
+use Rattle.blocks.specs.Records.{formats, marksSpare, unmarked, flagsRefusal, marksRefusal}
+use Rattle.blocks.specs.Offsets.{specificationAt}
 
 -- a mark as a number is the low bit that it tests
 pub bit : (x : ℕ) → pick (odd x) 1 0 ≡ x % 2
@@ -81,9 +81,9 @@ none-flags (suc n) m l =
     rw (none-flags n (m / 2) (omega (arith, pow-suc 2 n))) (sym (same-marks (odd m) false (m / 2) 0) ∙ ap (λ (k : ℕ). eqb k 0) whole)
 
 -- so 6 is tested on the number
-pub number-refusal : (c : Category) (m : ℕ) → m < 4294967296
-    → numberRefusal c m ≡ pick (eqb m 0) noneMarked (pick (marksSpare (flagsOf 32 m) (c .fields)) spareMarked 0)
-number-refusal c m l = rw (none-flags 32 m l)
+pub marks-refused : (c : Category) (m : ℕ) → m < 4294967296
+    → marksRefusal c m ≡ pick (eqb m 0) noneMarked (pick (marksSpare (flagsOf 32 m) (c .fields)) spareMarked 0)
+marks-refused c m l = rw (none-flags 32 m l)
 
 -- the marks that two numbers have in common: the first, and the others
 pub common : (m k : ℕ) → bitAnd m k ≡ pick (odd m && odd k) 1 0 + bitAnd (m / 2) (k / 2) * 2
@@ -142,7 +142,7 @@ mark-more [] (suc n) (suc i) = mark-more [] n i
 mark-more (b ∷ bs) n zero = refl
 mark-more (b ∷ bs) n (suc i) = mark-more bs n i
 
-pub meets-more : (rs : List Row) (t : ℕ) (bs : List Bool) (n : ℕ) → meets rs t (bs ++ replicate n false) ≡ meets rs t bs
+pub meets-more : (rs : List FieldNeed) (t : ℕ) (bs : List Bool) (n : ℕ) → meets rs t (bs ++ replicate n false) ≡ meets rs t bs
 unfolding meets
 meets-more [] t bs n = refl
 meets-more (r ∷ rs) t bs n = rw (mark-more bs n (r .field - 1), meets-more rs t bs n)
@@ -189,7 +189,7 @@ module _ (s : List ℕ) (len : ℕ) (o : Octets s) where
       }
 
   -- an octet before others
-  marked-then : (n at : ℕ) (m : Answer ℕ (List ℕ)) → OfGot (Marked s len n (at + 1)) m
+  marked-then : (n at : ℕ) (m : Parsed ℕ (List ℕ)) → OfGot (Marked s len n (at + 1)) m
       → OfGot (Marked s len (suc n) at) (andThen m (λ gs q. got (getD s at 0 / 2 ∷ gs) q))
   unfolding groupsOf
   marked-then n at (refused k) m = tt
@@ -204,23 +204,23 @@ module _ (s : List ℕ) (len : ℕ) (o : Octets s) where
         within = m .within;
       }
 
-  marked : (n at : ℕ) → OfGot (Marked s len n at) (specsAt s len n at)
-  unfolding specsAt
+  marked : (n at : ℕ) → OfGot (Marked s len n at) (specificationAt s len n at)
+  unfolding specificationAt
   marked zero at =
       choose (OfGot (Marked s len 0 at)) (leb len at) (λ e. tt)
       (λ e. choose (OfGot (Marked s len 0 at)) (odd (getD s at 0)) (λ f. tt) (λ f. marked-last 0 at e))
   marked (suc n) at =
       choose (OfGot (Marked s len (suc n) at)) (leb len at) (λ e. tt)
       (λ e. choose (OfGot (Marked s len (suc n) at)) (odd (getD s at 0))
-      (λ f. marked-then n at (specsAt s len n (at + 1)) (marked n (at + 1)))
+      (λ f. marked-then n at (specificationAt s len n (at + 1)) (marked n (at + 1)))
       (λ f. marked-last (suc n) at e))
 
-pub specs-marked : (s : List ℕ) (len n at : ℕ) (gs : List ℕ) (q : ℕ) → Octets s → specsAt s len n at ≡ got gs q → Marked s len n at gs q
-specs-marked s len n at gs q o h = subst (OfGot (Marked s len n at)) h (marked s len o n at)
+pub specification-marked : (s : List ℕ) (len n at : ℕ) (gs : List ℕ) (q : ℕ) → Octets s → specificationAt s len n at ≡ got gs q → Marked s len n at gs q
+specification-marked s len n at gs q o h = subst (OfGot (Marked s len n at)) h (marked s len o n at)
 
 -- where a specification ends is where its chain of octets ends
-pub spec-end : (s : List ℕ) (len n at : ℕ) → endOf (specsAt s len n at) ≡ chainEnd s len longSpecification 1 n at
-unfolding specsAt chainEnd
+pub spec-end : (s : List ℕ) (len n at : ℕ) → endOf (specificationAt s len n at) ≡ chainEnd s len longSpecification 1 n at
+unfolding specificationAt chainEnd
 spec-end s len zero at = rw (none-left, add-zero, of-pick endOf (leb len at), of-pick endOf (odd (getD s at 0)))
 spec-end s len (suc n) at =
     rw (

@@ -12,26 +12,26 @@ use Rattle.octets.specs.Choice.{pick, odd}
 use Rattle.octets.specs.Numbers.{Octets, number}
 use Rattle.octets.proofs.Cases.{choose}
 use Rattle.layouts.specs.Groups.{values, Group}
-use Rattle.layouts.specs.Formats.{Answer, refused, got, andThen, Format, done, ask, Trace, fitsIn}
+use Rattle.layouts.specs.Formats.{Parsed, refused, got, andThen, Format, done, ask, Trace, fitsIn}
 use Rattle.layouts.specs.Offsets.{runAt, itemAt}
 use Rattle.layouts.specs.Layouts.{Layout, unused, fixed, extended, repeated, explicit, isUnused, chain, counted, format}
 use Rattle.layouts.specs.Tables.{layout}
 use Rattle.layouts.specs.Categories.{Category, known, category}
 use Rattle.layouts.specs.declared.form.Form.{Form}
 use Rattle.layouts.specs.declared.form.Form.the-variants as form
-use Rattle.layouts.proofs.Answers.{got-refused, pick-no, through, OfGot}
+use Rattle.layouts.proofs.Parsed.{got-refused, pick-no, through, OfGot}
 use Rattle.items.specs.Typed.{val, traceOf}
 use Rattle.items.specs.declared.typed.Item.{Item}
 use Rattle.items.proofs.Items.{itemOf, typed-trace}
 use Rattle.blocks.specs.Specification.{flags}
 use Rattle.blocks.specs.Marks.{marksOf, flagsOf}
 use Rattle.blocks.specs.Records.{Rec, formats, layoutOf}
-use Rattle.blocks.specs.Offsets.{specsAt, itemsAt, recordAt}
+use Rattle.blocks.specs.Offsets.{specificationAt, itemsAt, recordAt}
 use Rattle.blocks.specs.Typed.{typed, fieldFor, placeIn, startIn, valuesFor, startFor, typedRec}
 use Rattle.blocks.specs.Steps.{itemsFrom}
 use Rattle.blocks.specs.Meaning.{itemIn, sevens, valuesOf, recOf}
 use Rattle.blocks.specs.declared.record.Record.{Record}
-use Rattle.blocks.proofs.MarksLaws.{flags-long, flags-32, marks-one, marks-cons, specs-marked}
+use Rattle.blocks.proofs.MarksLaws.{flags-long, flags-32, marks-one, marks-cons, specification-marked}
 use Rattle.blocks.proofs.WalkSteps.{Table, table, item-run}
 use Rattle.blocks.proofs.FormLaws.{owned, Forms, forms, field-owned}
 use Rattle.blocks.proofs.ItemStarts.{formats-at, items-there}
@@ -49,18 +49,18 @@ no-sevens zero = tt
 no-sevens (suc n) = (omega arith, no-sevens n)
 
 -- half an octet is such a number
-specs-sevens : (s : List ℕ) (len : ℕ) → Octets s → (n at : ℕ) → OfGot (λ gs q. Sevens gs) (specsAt s len n at)
-unfolding specsAt
-specs-sevens s len o zero at =
+specification-sevens : (s : List ℕ) (len : ℕ) → Octets s → (n at : ℕ) → OfGot (λ gs q. Sevens gs) (specificationAt s len n at)
+unfolding specificationAt
+specification-sevens s len o zero at =
     choose (OfGot (λ gs q. Sevens gs)) (leb len at) (λ e. tt)
     (λ e. choose (OfGot (λ gs q. Sevens gs)) (odd (getD s at 0)) (λ f. tt) (λ f. (omega (arith, o at), tt)))
-specs-sevens s len o (suc n) at =
+specification-sevens s len o (suc n) at =
     choose (OfGot (λ gs q. Sevens gs)) (leb len at) (λ e. tt)
     (λ e. choose (OfGot (λ gs q. Sevens gs)) (odd (getD s at 0))
-    (λ f. go (specsAt s len n (at + 1)) (specs-sevens s len o n (at + 1)))
+    (λ f. go (specificationAt s len n (at + 1)) (specification-sevens s len o n (at + 1)))
     (λ f. (omega (arith, o at), no-sevens (suc n))))
   where
-    go : (m : Answer ℕ (List ℕ)) → OfGot (λ gs q. Sevens gs) m
+    go : (m : Parsed ℕ (List ℕ)) → OfGot (λ gs q. Sevens gs) m
         → OfGot (λ gs q. Sevens gs) (andThen m (λ gs q. got (getD s at 0 / 2 ∷ gs) q))
     go (refused k) w = tt
     go (got gs q) w = (omega (arith, o at), w)
@@ -186,9 +186,9 @@ module _ (s : List ℕ) (len : ℕ) where
   trace-some explicit at q tr u h = run-some _ _ at q tr h
 
 -- made as a record read is: entries and content behind their count octet
-module _ (number marks : ℕ) (values : Form → Trace) (start : Form → ℕ) where
+module _ (cat marks : ℕ) (values : Form → Trace) (start : Form → ℕ) where
   abbrev pub made : Record
-  made = typed number marks values (λ f e. placeIn (start f) e (values f))
+  made = typed cat marks values (λ f e. placeIn (start f) e (values f))
 
   place-of : (e : ℕ) (f : Form)
       → placeIn (start f) e (values f) ≡ record { at = placeIn (start f) 0 (values f) .at; count = val (values f) 0 0 - e }
@@ -199,7 +199,7 @@ module _ (number marks : ℕ) (values : Form → Trace) (start : Form → ℕ) w
       go (v ∷ tr) = refl
 
   -- each form of items but the one of entries that the category does not have
-  pub made-item : (f : Form) → (f ≡ pick (eqb number 242) Form.Statistics Form.Versions → ⊥) → itemIn made f ≡ itemOf f (values f) (placeIn (start f) 0 (values f) .at)
+  pub made-item : (f : Form) → (f ≡ pick (eqb cat 242) Form.Statistics Form.Versions → ⊥) → itemIn made f ≡ itemOf f (values f) (placeIn (start f) 0 (values f) .at)
   made-item form.Spare own = refl
   made-item form.Source own = refl
   made-item form.MessageType own = refl
@@ -213,14 +213,14 @@ module _ (number marks : ℕ) (values : Form → Trace) (start : Form → ℕ) w
   made-item form.Configuration own = refl
   made-item form.Range own = refl
   made-item form.Status own = refl
-  made-item form.Statistics own = go (eqb number 242) own
+  made-item form.Statistics own = go (eqb cat 242) own
     where
       go : (b : Bool) → (Form.Statistics ≡ pick b Form.Statistics Form.Versions → ⊥)
           → Item.Statistics (placeIn (start (pick b Form.Versions Form.Statistics)) 0 (values (pick b Form.Versions Form.Statistics)))
           ≡ itemOf Form.Statistics (values Form.Statistics) (placeIn (start Form.Statistics) 0 (values Form.Statistics) .at)
       go true own = absurd (own refl)
       go false own = ap Item.Statistics (place-of 0 Form.Statistics ∙ rw sub-zero)
-  made-item form.Versions own = go (eqb number 242) own
+  made-item form.Versions own = go (eqb cat 242) own
     where
       go : (b : Bool) → (Form.Versions ≡ pick b Form.Statistics Form.Versions → ⊥)
           → Item.Versions (placeIn (start (pick b Form.Versions Form.Statistics)) 0 (values (pick b Form.Versions Form.Statistics)))
@@ -245,8 +245,8 @@ module _ (s : List ℕ) (len : ℕ) (c : Category) (w : Forms c) (gs : List ℕ)
   start i = startIn s len (layoutOf c gs) p i
 
   -- a form that has a field is not the one of entries that the category does not have
-  not-other : (f : Form) (i : ℕ) → fieldFor (c .fields) f ≡ suc i → f ≡ pick (eqb (c .number) 242) Form.Statistics Form.Versions → ⊥
-  not-other f i e = go (eqb (c .number) 242) (w .statistics i) (w .versions i)
+  not-other : (f : Form) (i : ℕ) → fieldFor (c .fields) f ≡ suc i → f ≡ pick (eqb (c .cat) 242) Form.Statistics Form.Versions → ⊥
+  not-other f i e = go (eqb (c .cat) 242) (w .statistics i) (w .versions i)
     where
       go : (b : Bool) → (fieldFor (c .fields) Form.Statistics ≡ suc i → b ≡ false) → (fieldFor (c .fields) Form.Versions ≡ suc i → b ≡ true)
           → f ≡ pick b Form.Statistics Form.Versions → ⊥
@@ -260,7 +260,7 @@ module _ (s : List ℕ) (len : ℕ) (c : Category) (w : Forms c) (gs : List ℕ)
   unfolding typedRec
   item-typed f i q e u h =
       let (v, tr, is) = trace-some s len (layout f) (start i) q (getD trs i []) u h in
-      made-item (c .number) (marksOf (flags gs)) (valuesFor c r) (startFor s len c r p) f (not-other f i e) ∙ rw (e, one-less i, is)
+      made-item (c .cat) (marksOf (flags gs)) (valuesFor c r) (startFor s len c r p) f (not-other f i e) ∙ rw (e, one-less i, is)
 
   -- so it is the item that was read at the field
   field-item : (f : Form) (i q : ℕ) → owned (c .fields) f i ≡ true
@@ -332,12 +332,12 @@ module _ (s : List ℕ) (len n : ℕ) (c : Category) (w : Forms c) (t : Table n 
   means-at : Octets s → (at q : ℕ) (r : Rec) → recordAt s len c at ≡ got r q → recOf s (typedRec s len c r (itemsFrom s len c at)) ≡ r
   means-at o at q r h =
       let (p, e, e', z, y) = record-parts s len c at q r h in
-      let low : Sevens (r .marks) = subst (OfGot (λ gs q. Sevens gs)) e (specs-sevens s len o (c .most - 1) at) in
-      let long : length (r .marks) ≡ c .most = omega (arith, specs-marked s len (c .most - 1) at (r .marks) p o e .long, t .some) in
+      let low : Sevens (r .marks) = subst (OfGot (λ gs q. Sevens gs)) e (specification-sevens s len o (c .most - 1) at) in
+      let long : length (r .marks) ≡ c .most = omega (arith, specification-marked s len (c .most - 1) at (r .marks) p o e .long, t .some) in
       rw e (rec-means (r .marks) (r .items) p q low long e')
 
-module _ (s : List ℕ) (len number at : ℕ) (o : Octets s) (k : known number ≡ true) where
+module _ (s : List ℕ) (len cat at : ℕ) (o : Octets s) (k : known cat ≡ true) where
   -- A typed record that was made of a record read means that record.
-  pub means-read : (r : Rec) (q : ℕ) → recordAt s len (category number) at ≡ got r q
-      → recOf s (typedRec s len (category number) r (itemsFrom s len (category number) at)) ≡ r
-  means-read r q h = means-at s len number (category number) (forms number k) (table number k) o at q r h
+  pub means-read : (r : Rec) (q : ℕ) → recordAt s len (category cat) at ≡ got r q
+      → recOf s (typedRec s len (category cat) r (itemsFrom s len (category cat) at)) ≡ r
+  means-read r q h = means-at s len cat (category cat) (forms cat k) (table cat k) o at q r h

@@ -8,7 +8,7 @@ use lib.ListN.{getD}
 use borrow.Author.Tests.{ne-eqb}
 use Rattle.octets.specs.Choice.{pick, odd}
 use Rattle.layouts.specs.Categories.{fieldMarks}
-use Rattle.layouts.specs.Presence.{Need, M, X, row, rowsByType, rows23, rows242, rowsOf, mandatory, met, meets}
+use Rattle.layouts.specs.Presence.{Need, M, X, byType, needsByType, needs23, needs242, needsOf, mandatory, met, meets}
 use Rattle.blocks.specs.Marks.{flagsOf, hasAll}
 
 -- a need that is the same in every type
@@ -27,23 +27,23 @@ reorder false b c d x y = and-false b
 
 module _ (t m : ℕ) where
   -- category 65: its mandatory items, and those of the type
-  pub rows-65 : (n : ℕ) → n ≡ 65
-      → meets (rowsOf n) t (flagsOf 32 m) ≡ (hasAll 32 (fieldMarks (mandatory (rowsOf n))) m && meets rowsByType t (flagsOf 32 m))
+  pub needs-65 : (n : ℕ) → n ≡ 65
+      → meets (needsOf n) t (flagsOf 32 m) ≡ (hasAll 32 (fieldMarks (mandatory (needsOf n))) m && meets needsByType t (flagsOf 32 m))
   unfolding meets flagsOf hasAll
-  rows-65 n e =
+  needs-65 n e =
       let bs = flagsOf 32 m in
       rw (e, any-type (eqb t 1) (eqb t 2) M)
-      (reorder (odd m) (odd (m / 2)) (odd (m / 2 / 2)) (odd (m / 2 / 2 / 2)) (met (row 5 X M X .need t) (getD bs 4 false))
-      (meets (row 6 M X X ∷ row 7 X X M ∷ []) t bs))
+      (reorder (odd m) (odd (m / 2)) (odd (m / 2 / 2)) (odd (m / 2 / 2 / 2)) (met (byType 5 X M X .need t) (getD bs 4 false))
+      (meets (byType 6 M X X ∷ byType 7 X X M ∷ []) t bs))
 
   other : (a b : Bool)
-      → meets (pick a rows23 (pick b rows242 [])) t (flagsOf 32 m)
-      ≡ hasAll 32 (fieldMarks (mandatory (pick a rows23 (pick b rows242 [])))) m
+      → meets (pick a needs23 (pick b needs242 [])) t (flagsOf 32 m)
+      ≡ hasAll 32 (fieldMarks (mandatory (pick a needs23 (pick b needs242 [])))) m
   unfolding meets flagsOf hasAll
   other true b = refl
   other false true = refl
   other false false = refl
 
   -- the others: their mandatory items
-  pub rows-other : (n : ℕ) → (n ≡ 65 → ⊥) → meets (rowsOf n) t (flagsOf 32 m) ≡ hasAll 32 (fieldMarks (mandatory (rowsOf n))) m
-  rows-other n h = rw (ne-eqb n 65 h) (other (eqb n 23) (eqb n 242))
+  pub needs-other : (n : ℕ) → (n ≡ 65 → ⊥) → meets (needsOf n) t (flagsOf 32 m) ≡ hasAll 32 (fieldMarks (mandatory (needsOf n))) m
+  needs-other n h = rw (ne-eqb n 65 h) (other (eqb n 23) (eqb n 242))

@@ -11,18 +11,18 @@ use lib.Dec.{leb, eqb}
 use lib.ListN.{length}
 use Rattle.octets.specs.Numbers.{Octets}
 use Rattle.octets.specs.Refusals.{presenceBroken}
-use Rattle.layouts.specs.Formats.{Answer, refused, got, Trace}
+use Rattle.layouts.specs.Formats.{Parsed, refused, got, Trace}
 use Rattle.layouts.specs.Categories.{Category}
-use Rattle.layouts.proofs.Answers.{pick-yes, through}
-use Rattle.blocks.specs.Records.{Rec, layoutOf, marksRefusal, present}
+use Rattle.layouts.proofs.Parsed.{pick-yes, through}
+use Rattle.blocks.specs.Records.{Rec, layoutOf, specificationRefusal, present}
 use Rattle.blocks.specs.Blocks.{Block, wrong, all, with, firstAt, recordsAt}
-use Rattle.blocks.specs.Offsets.{specsAt, itemsAt, recordAt}
+use Rattle.blocks.specs.Offsets.{specificationAt, itemsAt, recordAt}
 use Rattle.blocks.specs.Walks.{onward, runOf, answerOf}
 use Rattle.blocks.specs.declared.walk.Walked.{Walked}
 use Rattle.blocks.specs.declared.walk.Walked.the-variants as walked
 use Rattle.blocks.specs.declared.walk.Reading.{Reading}
 use Rattle.blocks.specs.declared.walk.Reading.the-variants as reading
-use Rattle.blocks.proofs.MarksLaws.{specs-marked}
+use Rattle.blocks.proofs.MarksLaws.{specification-marked}
 use Rattle.blocks.proofs.WalkSteps.{items-within, run-none, run-one, run-end}
 
 -- an answer with so many records more
@@ -44,13 +44,13 @@ counted-one len count r (all cat rs) =
 module _ (s : List ℕ) (len : ℕ) (c : Category) (at : ℕ) where
   abbrev pub Parts : ℕ → Rec → Type 0
   Parts q r =
-      (p : ℕ) × (specsAt s len (c .most - 1) at ≡ got (r .marks) p)
+      (p : ℕ) × (specificationAt s len (c .most - 1) at ≡ got (r .marks) p)
       × (itemsAt s len (layoutOf c (r .marks)) p ≡ got (r .items) q)
-      × (eqb (marksRefusal c (r .marks)) 0 ≡ true) × (present c (r .marks) (r .items) ≡ true)
+      × (eqb (specificationRefusal c (r .marks)) 0 ≡ true) × (present c (r .marks) (r .items) ≡ true)
 
   same-parts : (gs : List ℕ) (trs : List Trace) (p q' q : ℕ) (r : Rec) → got (record { marks = gs; items = trs }) q' ≡ got r q
-      → specsAt s len (c .most - 1) at ≡ got gs p → itemsAt s len (layoutOf c gs) p ≡ got trs q'
-      → eqb (marksRefusal c gs) 0 ≡ true → present c gs trs ≡ true → Parts q r
+      → specificationAt s len (c .most - 1) at ≡ got gs p → itemsAt s len (layoutOf c gs) p ≡ got trs q'
+      → eqb (specificationRefusal c gs) 0 ≡ true → present c gs trs ≡ true → Parts q r
   same-parts gs trs p q' q r end e e' z y =
       let is : record { marks = gs; items = trs } ≡ r = cc in
       let same : q' ≡ q = cc in
@@ -59,8 +59,8 @@ module _ (s : List ℕ) (len : ℕ) (c : Category) (at : ℕ) where
   pub record-parts : (q : ℕ) (r : Rec) → recordAt s len c at ≡ got r q → Parts q r
   unfolding recordAt
   record-parts q r h =
-      let (gs, p, e, h') = through (specsAt s len (c .most - 1) at) h in
-      let (z, h'') = pick-yes (eqb (marksRefusal c gs) 0) _ _ h' in
+      let (gs, p, e, h') = through (specificationAt s len (c .most - 1) at) h in
+      let (z, h'') = pick-yes (eqb (specificationRefusal c gs) 0) _ _ h' in
       let (trs, q', e', last) = through (itemsAt s len (layoutOf c gs) p) h'' in
       let (y, end) = pick-yes (present c gs trs) presenceBroken (got (record { marks = gs; items = trs }) q') last in
       same-parts gs trs p q' q r end e e' z y
@@ -70,11 +70,11 @@ module _ (s : List ℕ) (len : ℕ) (c : Category) where
   pub record-within : Octets s → (at q : ℕ) (r : Rec) → recordAt s len c at ≡ got r q → (at < q) × (q ≤ len)
   record-within o at q r h =
       let (p, e, e', z, y) = record-parts s len c at q r h in
-      let w = specs-marked s len (c .most - 1) at (r .marks) p o e in
+      let w = specification-marked s len (c .most - 1) at (r .marks) p o e in
       let (a, b) = items-within s len (layoutOf c (r .marks)) p q (r .items) (w .within) e' in
       (omega arith, omega arith)
 
-  pub records-end : (m at : ℕ) → len ≤ at → recordsAt s len c m at ≡ all (c .number) []
+  pub records-end : (m at : ℕ) → len ≤ at → recordsAt s len c m at ≡ all (c .cat) []
   unfolding recordsAt
   records-end zero at h = rw (le-leb len at h)
   records-end (suc m) at h = rw (le-leb len at h)
@@ -107,7 +107,7 @@ module _ (s : List ℕ) (len : ℕ) (c : Category) where
   module _ (o : Octets s) where
     run-next : (p b at count : ℕ) → Passed at count → at < len
         → ((q : ℕ) → at < q → Passed q (count + 1) → Follows p (runOf s len c b q (count + 1)))
-        → (a : Answer ℕ Rec) → recordAt s len c at ≡ a → Follows p (onward s len c at a (λ q. runOf s len c b q (count + 1)))
+        → (a : Parsed ℕ Rec) → recordAt s len c at ≡ a → Follows p (onward s len c at a (λ q. runOf s len c b q (count + 1)))
     run-next p b at count w more k (refused m) e =
         sym (w .same ∙ rw (records-one (len - count) (len - (count + 1)) at (omega arith) more, e))
     run-next p b at count w more k (got r q) e =

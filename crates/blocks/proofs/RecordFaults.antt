@@ -12,20 +12,20 @@ use lib.ListN.{length, getD, take}
 use Rattle.octets.specs.Choice.{pick}
 use Rattle.octets.specs.Numbers.{Octets}
 use Rattle.octets.proofs.Cases.{choose}
-use Rattle.layouts.specs.Formats.{Answer, refused, got, andThen, Format, done, Trace, fitsIn}
+use Rattle.layouts.specs.Formats.{Parsed, refused, got, andThen, Format, done, Trace, fitsIn}
 use Rattle.layouts.specs.Offsets.{runAt, itemAt}
 use Rattle.layouts.specs.Layouts.{isUnused, format, kindOf}
 use Rattle.layouts.specs.Tables.{layout}
 use Rattle.layouts.specs.Categories.{Category, formAt, layoutAt}
-use Rattle.layouts.proofs.Answers.{through}
+use Rattle.layouts.proofs.Parsed.{through}
 use Rattle.layouts.specs.declared.form.Form.{Form}
 use Rattle.blocks.specs.Specification.{flags}
 use Rattle.blocks.specs.Marks.{marksOf}
-use Rattle.blocks.specs.Records.{formats, marksSpare, layoutOf, unmarked, marksRefusal, present}
-use Rattle.blocks.specs.Offsets.{specsAt, itemsAt, recordAt}
+use Rattle.blocks.specs.Records.{formats, marksSpare, layoutOf, unmarked, specificationRefusal, present}
+use Rattle.blocks.specs.Offsets.{specificationAt, itemsAt, recordAt}
 use Rattle.blocks.specs.Faults.{Passes, NoCount, PastLast, OutOfRange, Marks, NoneMarked, SpareMarked, Long, Cut, Read, GoodMarks, Faulty, Broken}
 use Rattle.blocks.proofs.MarksLaws.{none-marks}
-use Rattle.blocks.proofs.Faults.{both-hold, neither, answer-got, spec-given-4, spec-given-7, spec-numbers, form-given-7, form-given-8, form-given-9, item-given, item-given-11, item-numbers}
+use Rattle.blocks.proofs.Faults.{both-hold, neither, answer-got, spec-given-4, spec-given-7, spec-refusals, form-given-7, form-given-8, form-given-9, item-given, item-given-11, item-refusals}
 
 -- Marks
 
@@ -97,8 +97,8 @@ module _ (gs : List ℕ) where
         go (suc i) m u = at-spare (flags gs) (c .fields) i m u
 
     -- "6: no field marked"
-    pub marks-given-6 : (marksRefusal c gs ≡ 6) ↔ NoneMarked gs
-    unfolding marksRefusal
+    pub marks-given-6 : (specificationRefusal c gs ≡ 6) ↔ NoneMarked gs
+    unfolding specificationRefusal
     marks-given-6 =
         let Same : ℕ → Type 0 = λ r. (r ≡ 6) ↔ NoneMarked gs in
         choose Same (unmarked (flags gs)) (λ z. both-hold (unmarked-none z)) λ z.
@@ -106,16 +106,16 @@ module _ (gs : List ℕ) where
         choose Same spare (λ a. neither (λ e. omega arith) some) (λ a. neither (λ e. omega arith) some)
 
     -- "5: a spare field marked"
-    pub marks-given-5 : (marksRefusal c gs ≡ 5) ↔ SpareMarked c gs
-    unfolding marksRefusal
+    pub marks-given-5 : (specificationRefusal c gs ≡ 5) ↔ SpareMarked c gs
+    unfolding specificationRefusal
     marks-given-5 =
         let Same : ℕ → Type 0 = λ r. (r ≡ 5) ↔ SpareMarked c gs in
         choose Same (unmarked (flags gs)) (λ z. neither (λ e. omega arith) (λ w. unmarked-none z (w .0) (w .1))) λ z.
         choose Same spare (λ a. both-hold (spare-some a)) (λ a. neither (λ e. omega arith) (λ w. false≢true (sym a ∙ some-spare w)))
 
     -- "0: accepted"
-    pub marks-given-0 : (marksRefusal c gs ≡ 0) ↔ ((NoneMarked gs → ⊥) × (SpareMarked c gs → ⊥))
-    unfolding marksRefusal
+    pub marks-given-0 : (specificationRefusal c gs ≡ 0) ↔ ((NoneMarked gs → ⊥) × (SpareMarked c gs → ⊥))
+    unfolding specificationRefusal
     marks-given-0 =
         let Same : ℕ → Type 0 = λ r. (r ≡ 0) ↔ ((NoneMarked gs → ⊥) × (SpareMarked c gs → ⊥)) in
         choose Same (unmarked (flags gs)) (λ z. neither (λ e. omega arith) (λ w. w .0 (unmarked-none z))) λ z.
@@ -123,21 +123,21 @@ module _ (gs : List ℕ) where
         (λ a. both-hold ((λ h. false≢true (sym z ∙ none-unmarked h)), (λ w. false≢true (sym a ∙ some-spare w))))
 
     -- no other number refuses the marks
-    pub marks-numbers : (marksRefusal c gs ≡ 0 → ⊥) → (5 ≤ marksRefusal c gs) × (marksRefusal c gs ≤ 6)
-    unfolding marksRefusal
-    marks-numbers =
+    pub marks-refusals : (specificationRefusal c gs ≡ 0 → ⊥) → (5 ≤ specificationRefusal c gs) × (specificationRefusal c gs ≤ 6)
+    unfolding specificationRefusal
+    marks-refusals =
         let Known : ℕ → Type 0 = λ r. (r ≡ 0 → ⊥) → (5 ≤ r) × (r ≤ 6) in
         choose Known (unmarked (flags gs)) (λ z d. omega arith) (λ z. choose Known spare (λ a d. omega arith) (λ a d. absurd (d refl)))
 
 -- Items, one after the other
 
 -- the answer to a step, or to what follows it, is a refusal
-then-refused : {R A B : Type 0} (m : Answer R A) (f : A → R → Answer R B) (n : ℕ) (P : Type 0)
+then-refused : {R A B : Type 0} (m : Parsed R A) (f : A → R → Parsed R B) (n : ℕ) (P : Type 0)
     → (m ≡ refused n → P) → ((a : A) (q : R) → m ≡ got a q → f a q ≡ refused n → P) → andThen m f ≡ refused n → P
 then-refused (refused k) f n P x y h = x (cc)
 then-refused (got a q) f n P x y h = y a q refl h
 
-pick-refused : {R A : Type 0} (b : Bool) (m : Answer R A) (k n : ℕ) (P : Type 0)
+pick-refused : {R A : Type 0} (b : Bool) (m : Parsed R A) (k n : ℕ) (P : Type 0)
     → (b ≡ true → m ≡ refused n → P) → (b ≡ false → k ≡ n → P) → pick b m (refused k) ≡ refused n → P
 pick-refused true m k n P x y h = x refl h
 pick-refused false m k n P x y h = y refl (cc)
@@ -241,20 +241,20 @@ module _ (s : List ℕ) (len : ℕ) (c : Category) (at : ℕ) where
 
   -- A record: refused at its specification, for its marks, at an item, or for what is present
 
-  by-spec : (n : ℕ) → specsAt s len (c .most - 1) at ≡ refused n → recordAt s len c at ≡ refused n
+  by-spec : (n : ℕ) → specificationAt s len (c .most - 1) at ≡ refused n → recordAt s len c at ≡ refused n
   unfolding recordAt
   by-spec n e = rw e
 
-  by-marks : (gs : List ℕ) (p n : ℕ) → Read s len c at gs p → marksRefusal c gs ≡ n → (n ≡ 0 → ⊥) → recordAt s len c at ≡ refused n
+  by-marks : (gs : List ℕ) (p n : ℕ) → Read s len c at gs p → specificationRefusal c gs ≡ n → (n ≡ 0 → ⊥) → recordAt s len c at ≡ refused n
   unfolding recordAt
   by-marks gs p n e m d = rw (e, m, ne-eqb n 0 d)
 
   module _ (o : Octets s) where
-    judge-good : (gs : List ℕ) (p : ℕ) → Read s len c at gs p → marksRefusal c gs ≡ 0 → GoodMarks s len c at gs p
+    judge-good : (gs : List ℕ) (p : ℕ) → Read s len c at gs p → specificationRefusal c gs ≡ 0 → GoodMarks s len c at gs p
     judge-good gs p e z = let w = marks-given-0 gs c .0 z in (e, w .0, w .1)
 
-    good-judged : (gs : List ℕ) (p : ℕ) → GoodMarks s len c at gs p → eqb (marksRefusal c gs) 0 ≡ true
-    good-judged gs p g = eq-eqb (marksRefusal c gs) 0 (marks-given-0 gs c .1 (g .1, g .2))
+    good-judged : (gs : List ℕ) (p : ℕ) → GoodMarks s len c at gs p → eqb (specificationRefusal c gs) 0 ≡ true
+    good-judged gs p g = eq-eqb (specificationRefusal c gs) 0 (marks-given-0 gs c .1 (g .1, g .2))
 
     by-items : (gs : List ℕ) (p n : ℕ) → GoodMarks s len c at gs p → itemsAt s len (layoutOf c gs) p ≡ refused n
         → recordAt s len c at ≡ refused n
@@ -265,39 +265,39 @@ module _ (s : List ℕ) (len : ℕ) (c : Category) (at : ℕ) where
     unfolding recordAt
     by-presence w = rw (w .good .0, good-judged (w .marks) (w .first) (w .good), w .items, w .absent)
 
-    record-cases : (n : ℕ) (P : Type 0) → (specsAt s len (c .most - 1) at ≡ refused n → P)
-        → ((gs : List ℕ) (p : ℕ) → Read s len c at gs p → marksRefusal c gs ≡ n → (n ≡ 0 → ⊥) → P)
+    record-cases : (n : ℕ) (P : Type 0) → (specificationAt s len (c .most - 1) at ≡ refused n → P)
+        → ((gs : List ℕ) (p : ℕ) → Read s len c at gs p → specificationRefusal c gs ≡ n → (n ≡ 0 → ⊥) → P)
         → ((gs : List ℕ) (p : ℕ) → GoodMarks s len c at gs p → itemsAt s len (layoutOf c gs) p ≡ refused n → P)
         → (Broken s len c at → n ≡ 10 → P) → recordAt s len c at ≡ refused n → P
     unfolding recordAt
     record-cases n P spec marks items presence =
-        then-refused (specsAt s len (c .most - 1) at) _ n P spec λ gs p e.
-        pick-refused (eqb (marksRefusal c gs) 0) _ (marksRefusal c gs) n P
+        then-refused (specificationAt s len (c .most - 1) at) _ n P spec λ gs p e.
+        pick-refused (eqb (specificationRefusal c gs) 0) _ (specificationRefusal c gs) n P
         (λ z.
-        let g = judge-good gs p e (eqb-true (marksRefusal c gs) 0 z) in
+        let g = judge-good gs p e (eqb-true (specificationRefusal c gs) 0 z) in
         then-refused (itemsAt s len (layoutOf c gs) p) _ n P (items gs p g) λ trs q f.
         pick-refused (present c gs trs) (got (record { marks = gs; items = trs }) q) 10 n P
         (λ y k. absurd (answer-got k))
         (λ y k. presence (record { marks = gs; first = p; good = g; values = trs; next = q; items = f; absent = y }) (sym k)))
-        (λ z k. marks gs p e k (λ d. eqb-false (marksRefusal c gs) 0 z (k ∙ d)))
+        (λ z k. marks gs p e k (λ d. eqb-false (specificationRefusal c gs) 0 z (k ∙ d)))
 
     -- the numbers of each
-    marks-number : (gs : List ℕ) (p n : ℕ) → Read s len c at gs p → marksRefusal c gs ≡ n → (n ≡ 0 → ⊥) → (5 ≤ n) × (n ≤ 6)
-    marks-number gs p n e m d = rw m at (marks-numbers gs c (λ z. d (sym m ∙ z)))
+    marks-refusal : (gs : List ℕ) (p n : ℕ) → Read s len c at gs p → specificationRefusal c gs ≡ n → (n ≡ 0 → ⊥) → (5 ≤ n) × (n ≤ 6)
+    marks-refusal gs p n e m d = rw m at (marks-refusals gs c (λ z. d (sym m ∙ z)))
 
-    items-number : (gs : List ℕ) (p n : ℕ) → GoodMarks s len c at gs p → itemsAt s len (layoutOf c gs) p ≡ refused n
+    items-refusal : (gs : List ℕ) (p n : ℕ) → GoodMarks s len c at gs p → itemsAt s len (layoutOf c gs) p ≡ refused n
         → (7 ≤ n) × (n ≤ 11) × (n ≡ 10 → ⊥)
-    items-number gs p n g h =
+    items-refusal gs p n g h =
         let w = to-fault n (λ f q. itemAt s len (format (layout f)) q ≡ refused n) (λ f q. Iff·rfl) gs p g h in
-        go (item-numbers s len o (formAt c (w .field)) (w .start) n (used (w .marks) (w .first) (w .good) (w .field) (w .marked)) (w .fault))
+        go (item-refusals s len o (formAt c (w .field)) (w .start) n (used (w .marks) (w .first) (w .good) (w .field) (w .marked)) (w .fault))
       where
         go : ((7 ≤ n) × (n ≤ 9)) ⊎ (n ≡ 11) → (7 ≤ n) × (n ≤ 11) × (n ≡ 10 → ⊥)
         go (inl e) = omega arith
         go (inr e) = omega arith
 
     module _ (some : 1 ≤ c .most) where
-      spec-number : (n : ℕ) → specsAt s len (c .most - 1) at ≡ refused n → (4 ≤ n) × (n ≤ 7) × (n ≡ 5 → ⊥) × (n ≡ 6 → ⊥)
-      spec-number n h = go (spec-numbers s len c some at n h)
+      spec-refusal : (n : ℕ) → specificationAt s len (c .most - 1) at ≡ refused n → (4 ≤ n) × (n ≤ 7) × (n ≡ 5 → ⊥) × (n ≡ 6 → ⊥)
+      spec-refusal n h = go (spec-refusals s len c some at n h)
         where
           go : (n ≡ 4) ⊎ (n ≡ 7) → (4 ≤ n) × (n ≤ 7) × (n ≡ 5 → ⊥) × (n ≡ 6 → ⊥)
           go (inl e) = omega arith
@@ -308,8 +308,8 @@ module _ (s : List ℕ) (len : ℕ) (c : Category) (at : ℕ) where
       given-4 = (
         record-cases 4 (Long s len c at)
             (spec-given-4 s len c some at .0)
-            (λ gs p e m d. absurd (omega (arith, marks-number gs p 4 e m d)))
-            (λ gs p g h. absurd (omega (arith, items-number gs p 4 g h)))
+            (λ gs p e m d. absurd (omega (arith, marks-refusal gs p 4 e m d)))
+            (λ gs p g h. absurd (omega (arith, items-refusal gs p 4 g h)))
             (λ w e. absurd (omega arith)),
         λ w. by-spec 4 (spec-given-4 s len c some at .1 w),
       )
@@ -318,9 +318,9 @@ module _ (s : List ℕ) (len : ℕ) (c : Category) (at : ℕ) where
       pub given-5 : (recordAt s len c at ≡ refused 5) ↔ ((gs : List ℕ) × (p : ℕ) × Read s len c at gs p × SpareMarked c gs)
       given-5 = (
         record-cases 5 ((gs : List ℕ) × (p : ℕ) × Read s len c at gs p × SpareMarked c gs)
-            (λ h. absurd (omega (arith, spec-number 5 h)))
+            (λ h. absurd (omega (arith, spec-refusal 5 h)))
             (λ gs p e m d. (gs, p, e, marks-given-5 gs c .0 m))
-            (λ gs p g h. absurd (omega (arith, items-number gs p 5 g h)))
+            (λ gs p g h. absurd (omega (arith, items-refusal gs p 5 g h)))
             (λ w e. absurd (omega arith)),
         λ w. by-marks (w .0) (w .1) 5 (w .2) (marks-given-5 (w .0) c .1 (w .3)) (λ e. omega arith),
       )
@@ -329,9 +329,9 @@ module _ (s : List ℕ) (len : ℕ) (c : Category) (at : ℕ) where
       pub given-6 : (recordAt s len c at ≡ refused 6) ↔ ((gs : List ℕ) × (p : ℕ) × Read s len c at gs p × NoneMarked gs)
       given-6 = (
         record-cases 6 ((gs : List ℕ) × (p : ℕ) × Read s len c at gs p × NoneMarked gs)
-            (λ h. absurd (omega (arith, spec-number 6 h)))
+            (λ h. absurd (omega (arith, spec-refusal 6 h)))
             (λ gs p e m d. (gs, p, e, marks-given-6 gs c .0 m))
-            (λ gs p g h. absurd (omega (arith, items-number gs p 6 g h)))
+            (λ gs p g h. absurd (omega (arith, items-refusal gs p 6 g h)))
             (λ w e. absurd (omega arith)),
         λ w. by-marks (w .0) (w .1) 6 (w .2) (marks-given-6 (w .0) c .1 (w .3)) (λ e. omega arith),
       )
@@ -342,8 +342,8 @@ module _ (s : List ℕ) (len : ℕ) (c : Category) (at : ℕ) where
         given-item : 8 ≤ n → (n ≡ 10 → ⊥) → (recordAt s len c at ≡ refused n) ↔ Faulty s len c at Fault
         given-item low d = (
           record-cases n (Faulty s len c at Fault)
-              (λ h. absurd (omega (arith, spec-number n h)))
-              (λ gs p e m z. absurd (omega (arith, marks-number gs p n e m z)))
+              (λ h. absurd (omega (arith, spec-refusal n h)))
+              (λ gs p e m z. absurd (omega (arith, marks-refusal gs p n e m z)))
               (to-fault n Fault law)
               (λ w e. absurd (d e)),
           λ w. by-items (w .marks) (w .first) n (w .good) (of-fault n Fault law w),
@@ -357,7 +357,7 @@ module _ (s : List ℕ) (len : ℕ) (c : Category) (at : ℕ) where
       given-7 = (
         record-cases 7 (Cut s len c at ⊎ Faulty s len c at Over)
             (λ h. inl (spec-given-7 s len c some at .0 h))
-            (λ gs p e m d. absurd (omega (arith, marks-number gs p 7 e m d)))
+            (λ gs p e m d. absurd (omega (arith, marks-refusal gs p 7 e m d)))
             (λ gs p g h. inr (to-fault 7 Over law-7 gs p g h))
             (λ w e. absurd (omega arith)),
         back,
@@ -386,9 +386,9 @@ module _ (s : List ℕ) (len : ℕ) (c : Category) (at : ℕ) where
       pub given-10 : (recordAt s len c at ≡ refused 10) ↔ Broken s len c at
       given-10 = (
         record-cases 10 (Broken s len c at)
-            (λ h. absurd (omega (arith, spec-number 10 h)))
-            (λ gs p e m d. absurd (omega (arith, marks-number gs p 10 e m d)))
-            (λ gs p g h. absurd (omega (arith, items-number gs p 10 g h)))
+            (λ h. absurd (omega (arith, spec-refusal 10 h)))
+            (λ gs p e m d. absurd (omega (arith, marks-refusal gs p 10 e m d)))
+            (λ gs p g h. absurd (omega (arith, items-refusal gs p 10 g h)))
             (λ w e. w),
         by-presence,
       )
@@ -398,10 +398,10 @@ module _ (s : List ℕ) (len : ℕ) (c : Category) (at : ℕ) where
       given-11 = given-item 11 (OutOfRange s len) (λ f q. item-given-11 s len o f q) (omega arith) (λ e. omega arith)
 
       -- no other number refuses a record
-      pub record-numbers : (n : ℕ) → recordAt s len c at ≡ refused n → (4 ≤ n) × (n ≤ 11)
-      record-numbers n =
+      pub record-refusals : (n : ℕ) → recordAt s len c at ≡ refused n → (4 ≤ n) × (n ≤ 11)
+      record-refusals n =
           record-cases n ((4 ≤ n) × (n ≤ 11))
-          (λ h. omega (arith, spec-number n h))
-          (λ gs p e m d. omega (arith, marks-number gs p n e m d))
-          (λ gs p g h. omega (arith, items-number gs p n g h))
+          (λ h. omega (arith, spec-refusal n h))
+          (λ gs p e m d. omega (arith, marks-refusal gs p n e m d))
+          (λ gs p g h. omega (arith, items-refusal gs p n g h))
           (λ w e. omega arith)

@@ -13,15 +13,15 @@ use Rattle.octets.specs.Choice.{pick, odd}
 use Rattle.octets.specs.Numbers.{Octets}
 use Rattle.octets.specs.Refusals.{presenceBroken}
 use Rattle.octets.proofs.Cases.{both}
-use Rattle.layouts.specs.Formats.{Answer, got, andThen, Format, Trace, fitsIn, put}
+use Rattle.layouts.specs.Formats.{Parsed, got, andThen, Format, Trace, fitsIn, put}
 use Rattle.layouts.specs.Categories.{Category}
-use Rattle.layouts.proofs.Answers.{and-yes, through, pick-no, pick-yes, got-refused, OfGot}
+use Rattle.layouts.proofs.Parsed.{and-yes, through, pick-no, pick-yes, got-refused, OfGot}
 use Rattle.layouts.proofs.Suffixes.{item}
 use Rattle.layouts.proofs.Formats.{Was, item-put, item-was}
 use Rattle.blocks.specs.Specification.{zeros, putMarks}
-use Rattle.blocks.specs.Records.{Rec, layoutOf, marksRefusal, present, putItems}
+use Rattle.blocks.specs.Records.{Rec, layoutOf, specificationRefusal, present, putItems}
 use Rattle.blocks.proofs.GoodRecords.{itemsFit, good}
-use Rattle.blocks.proofs.Suffixes.{specs, items, recordOf}
+use Rattle.blocks.proofs.Suffixes.{specification, items, recordOf}
 
 -- The specification
 
@@ -51,15 +51,15 @@ module _ (g : ℕ) where
   half-odd = omega arith
 
 -- what is written is read back
-pub specs-put : (n : ℕ) (gs t : List ℕ) → length gs ≡ suc n → specs n (putMarks gs ++ t) ≡ got gs t
-unfolding specs putMarks zeros
-specs-put n [] t h = absurd (omega arith)
-specs-put zero (g ∷ []) t h = rw (even-mark g, half-even g)
-specs-put zero (g ∷ g' ∷ gs) t h = absurd (omega arith)
-specs-put (suc n) (g ∷ gs) t h = go (zeros gs) refl (specs-put n gs t (omega arith))
+pub specification-put : (n : ℕ) (gs t : List ℕ) → length gs ≡ suc n → specification n (putMarks gs ++ t) ≡ got gs t
+unfolding specification putMarks zeros
+specification-put n [] t h = absurd (omega arith)
+specification-put zero (g ∷ []) t h = rw (even-mark g, half-even g)
+specification-put zero (g ∷ g' ∷ gs) t h = absurd (omega arith)
+specification-put (suc n) (g ∷ gs) t h = go (zeros gs) refl (specification-put n gs t (omega arith))
   where
-    go : (b : Bool) → zeros gs ≡ b → specs n (putMarks gs ++ t) ≡ got gs t
-        → specs (suc n) (pick b (g * 2 ∷ []) ((g * 2 + 1) ∷ putMarks gs) ++ t) ≡ got (g ∷ gs) t
+    go : (b : Bool) → zeros gs ≡ b → specification n (putMarks gs ++ t) ≡ got gs t
+        → specification (suc n) (pick b (g * 2 ∷ []) ((g * 2 + 1) ∷ putMarks gs) ++ t) ≡ got (g ∷ gs) t
     go true e ih =
         let l : length gs ≡ suc n = omega arith in
         let z : gs ≡ replicate (suc n) 0 = zeros-are gs e ∙ rw l in
@@ -70,7 +70,7 @@ specs-put (suc n) (g ∷ gs) t h = go (zeros gs) refl (specs-put n gs t (omega a
 pub record Spec (n : ℕ) (s gs t : List ℕ) : Type 0 where
   pub o : List ℕ
   pub is : s ≡ o ++ t
-  pub reads : (q : List ℕ) → specs n (o ++ q) ≡ got gs q
+  pub reads : (q : List ℕ) → specification n (o ++ q) ≡ got gs q
   pub long : length gs ≡ suc n
   pub short : length (putMarks gs) ≤ length o
 
@@ -87,20 +87,20 @@ unfolding putMarks
 alone g n = rw (zeros-replicate n)
 
 -- what was read is such octets
-pub specs-was : (n : ℕ) (s gs t : List ℕ) → specs n s ≡ got gs t → Spec n s gs t
-unfolding specs putMarks zeros
-specs-was n [] gs t h = absurd (got-refused h)
-specs-was zero (x ∷ s) gs t h =
+pub specification-was : (n : ℕ) (s gs t : List ℕ) → specification n s ≡ got gs t → Spec n s gs t
+unfolding specification putMarks zeros
+specification-was n [] gs t h = absurd (got-refused h)
+specification-was zero (x ∷ s) gs t h =
     let (e, last) = pick-no (odd x) _ _ h in
     subst (OfGot (Spec 0 (x ∷ s))) last
     record { o = x ∷ []; is = refl; reads = λ q. rw e; long = refl; short = omega arith }
-specs-was (suc n) (x ∷ s) gs t h = go (odd x) refl (specs-was n s) h
+specification-was (suc n) (x ∷ s) gs t h = go (odd x) refl (specification-was n s) h
   where
-    go : (b : Bool) → odd x ≡ b → ((gs r : List ℕ) → specs n s ≡ got gs r → Spec n s gs r)
-        → pick b (andThen (specs n s) (λ gs r. got (x / 2 ∷ gs) r)) (got (x / 2 ∷ replicate (suc n) 0) s) ≡ got gs t
+    go : (b : Bool) → odd x ≡ b → ((gs r : List ℕ) → specification n s ≡ got gs r → Spec n s gs r)
+        → pick b (andThen (specification n s) (λ gs r. got (x / 2 ∷ gs) r)) (got (x / 2 ∷ replicate (suc n) 0) s) ≡ got gs t
         → Spec (suc n) (x ∷ s) gs t
     go true e ih h' =
-        let (gs', r, e', last) = through (specs n s) h' in
+        let (gs', r, e', last) = through (specification n s) h' in
         let w = ih gs' r e' in
         subst (OfGot (Spec (suc n) (x ∷ s))) last record {
           o = x ∷ w .o;
@@ -161,28 +161,28 @@ items-were (f ∷ fs) s trs t o h =
 -- Records
 
 -- after any octets that read as its marks, and with any spare bits, a good record is read
-pub record-any : (c : Category) (r : Rec) (o : List ℕ) → ((q : List ℕ) → specs (c .most - 1) (o ++ q) ≡ got (r .marks) q)
+pub record-any : (c : Category) (r : Rec) (o : List ℕ) → ((q : List ℕ) → specification (c .most - 1) (o ++ q) ≡ got (r .marks) q)
     → good c r ≡ true → (xs : List (List ℕ)) (t : List ℕ)
     → recordOf c (o ++ (putItems (layoutOf c (r .marks)) (r .items) xs ++ t)) ≡ got r t
 unfolding recordOf good
 record-any c r o reads h xs t =
     let fs = layoutOf c (r .marks) in
     let (n, h') = both (eqb (length (r .marks)) (suc (c .most - 1))) _ h in
-    let (m, h'') = both (eqb (marksRefusal c (r .marks)) 0) _ h' in
+    let (m, h'') = both (eqb (specificationRefusal c (r .marks)) 0) _ h' in
     let (fit, there) = both (itemsFit fs (r .items)) (present c (r .marks) (r .items)) h'' in
     rw (reads (putItems fs (r .items) xs ++ t), m, items-put fs (r .items) xs t fit, there)
 
 -- what was read: a specification that marks the same, the items with some spare bits, and the record is good
 pub record Held (c : Category) (s : List ℕ) (r : Rec) (t : List ℕ) : Type 0 where
   pub spec : List ℕ
-  pub reads : (q : List ℕ) → specs (c .most - 1) (spec ++ q) ≡ got (r .marks) q
+  pub reads : (q : List ℕ) → specification (c .most - 1) (spec ++ q) ≡ got (r .marks) q
   pub short : length (putMarks (r .marks)) ≤ length spec
   pub bits : List (List ℕ)
   pub is : s ≡ spec ++ (putItems (layoutOf c (r .marks)) (r .items) bits ++ t)
   pub fine : good c r ≡ true
 
 held : (c : Category) (s gs q : List ℕ) (trs : List Trace) (t : List ℕ) → Spec (c .most - 1) s gs q
-    → eqb (marksRefusal c gs) 0 ≡ true → Were (layoutOf c gs) q trs t → present c gs trs ≡ true
+    → eqb (specificationRefusal c gs) 0 ≡ true → Were (layoutOf c gs) q trs t → present c gs trs ≡ true
     → Held c s (record { marks = gs; items = trs }) t
 unfolding good
 held c s gs q trs t sp m ws p = record {
@@ -197,11 +197,11 @@ held c s gs q trs t sp m ws p = record {
 pub record-held : (c : Category) (s : List ℕ) (r : Rec) (t : List ℕ) → Octets s → recordOf c s ≡ got r t → Held c s r t
 unfolding recordOf
 record-held c s r t o h =
-    let (gs, q, e, h1) = through (specs (c .most - 1) s) h in
-    let (m, h2) = pick-yes (eqb (marksRefusal c gs) 0) _ _ h1 in
+    let (gs, q, e, h1) = through (specification (c .most - 1) s) h in
+    let (m, h2) = pick-yes (eqb (specificationRefusal c gs) 0) _ _ h1 in
     let (trs, q', e', h3) = through (items (layoutOf c gs) q) h2 in
-    let this : Answer (List ℕ) Rec = got record { marks = gs; items = trs } q' in
+    let this : Parsed (List ℕ) Rec = got record { marks = gs; items = trs } q' in
     let (p, last) = pick-yes (present c gs trs) presenceBroken this h3 in
-    let sp = specs-was (c .most - 1) s gs q e in
+    let sp = specification-was (c .most - 1) s gs q e in
     let ws = items-were (layoutOf c gs) q trs q' (Octets-tail (sp .o) q s (sp .is) o) e' in
     subst (OfGot (Held c s)) {x = this} last (held c s gs q trs q' sp m ws p)

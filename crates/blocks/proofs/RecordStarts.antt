@@ -22,7 +22,7 @@ use Rattle.blocks.specs.Marks.{flagsOf, marked, nextMarked}
 use Rattle.blocks.specs.Records.{formats}
 use Rattle.blocks.specs.Typed.{fieldFor, stopOf, startIn}
 use Rattle.blocks.proofs.NextLaws.{next-within, next-marked, next-unmarked}
-use Rattle.blocks.proofs.FormLaws.{same-number, number-few, field-form, field-few, Forms, field-owned}
+use Rattle.blocks.proofs.FormLaws.{same-form-number, form-number-few, field-form, field-few, Forms, field-owned}
 use Rattle.blocks.proofs.ItemStarts.{formats-at, first-start, start-next}
 
 -- the next marked field: none before it is marked, and it is, where it is a field
@@ -67,7 +67,7 @@ module _ (s : List ℕ) (len : ℕ) (c : Category) (marks at : ℕ) where
     size = refl;
     here = sym (first-start s len (formats (flagsOf 32 marks) (c .fields)) at);
     inside = h;
-    notes = λ g u. getD-replicate 17 (formNumber g) (length s) 0 (number-few g) ∙ go (fieldFor (c .fields) g);
+    notes = λ g u. getD-replicate 17 (formNumber g) (length s) 0 (form-number-few g) ∙ go (fieldFor (c .fields) g);
     within = λ n. test (ltb n 17)
         (λ t. rw (getD-replicate 17 n (length s) 0 (ltb-true n 17 t)) (omega arith))
         (λ t. rw (List·getD-eq-default (replicate 17 (length s)) 0 {n = n} (ltb-false n 17 t)) (omega arith));
@@ -142,7 +142,7 @@ module _ (s : List ℕ) (len : ℕ) (c : Category) (marks at : ℕ) where
       form = formAt c f
 
       same : getD (set starts (formNumber form) p) (formNumber form) 0 ≡ p
-      same = getD-set-same starts (formNumber form) p 0 (omega (arith, w .size, number-few form))
+      same = getD-set-same starts (formNumber form) p 0 (omega (arith, w .size, form-number-few form))
 
       other : (n : ℕ) → (n ≡ formNumber form → ⊥) → getD (set starts (formNumber form) p) n 0 ≡ getD starts n 0
       other n = getD-set-other starts (formNumber form) n p 0
@@ -153,7 +153,7 @@ module _ (s : List ℕ) (len : ℕ) (c : Category) (marks at : ℕ) where
       noted g u =
           test (eqb (formNumber g) (formNumber form))
           (λ t.
-          let is : g ≡ form = same-number g form (eqb-true (formNumber g) (formNumber form) t) in
+          let is : g ≡ form = same-form-number g form (eqb-true (formNumber g) (formNumber form) t) in
           let k : fieldFor (c .fields) form ≡ f = own-field own f (w .low) more (rw is at u) in
           rw (is, same, k, e, lt-ltb f (f + 1) (omega arith)) (w .here))
           (λ t.

@@ -20,9 +20,9 @@ use Rattle.blocks.specs.Specification.{putMarks}
 use Rattle.blocks.specs.Records.{Rec, layoutOf, putItems, putRec}
 use Rattle.blocks.specs.Offsets.{recordAt}
 use Rattle.blocks.proofs.GoodRecords.{good}
-use Rattle.blocks.proofs.Suffixes.{specs, recordOf}
+use Rattle.blocks.proofs.Suffixes.{specification, recordOf}
 use Rattle.blocks.proofs.WindowLaws.{record-at}
-use Rattle.blocks.proofs.RecordLaws.{Octets-tail, specs-put, record-any, record-held}
+use Rattle.blocks.proofs.RecordLaws.{Octets-tail, specification-put, record-any, record-held}
 
 pub good-long : (c : Category) (r : Rec) → good c r ≡ true → length (r .marks) ≡ suc (c .most - 1)
 unfolding good
@@ -35,7 +35,7 @@ pub read-back : (c : Category) (r : Rec) → good c r ≡ true → (t : List ℕ
 unfolding putRec
 read-back c r h t =
     rw (append-assoc (putMarks (r .marks)) (putItems (layoutOf c (r .marks)) (r .items) []) t)
-    (record-any c r (putMarks (r .marks)) (λ q. specs-put (c .most - 1) (r .marks) q (good-long c r h)) h [] t)
+    (record-any c r (putMarks (r .marks)) (λ q. specification-put (c .most - 1) (r .marks) q (good-long c r h)) h [] t)
 
 -- the record of octets from their first on, and the octets behind it
 record-whole : (c : Category) (s : List ℕ) → recordOf c s ≡ behind s (length s) (recordAt s (length s) c 0)
@@ -90,13 +90,13 @@ more : (x : ℕ) → odd x ≡ false → (odd (x + 1) ≡ true) × ((x + 1) / 2 
 more x h = let e = eqb-false (x % 2) 1 h in (eq-eqb ((x + 1) % 2) 1 (omega arith), omega arith)
 
 -- A second specification octet of zero reads as none: the marks, the items and what stands behind are the same.
-specs-zero : (n x : ℕ) (s : List ℕ) → odd x ≡ false → specs (suc n) ((x + 1) ∷ 0 ∷ s) ≡ specs (suc n) (x ∷ s)
-unfolding specs
-specs-zero zero x s h = rw (h, more x h .0, more x h .1)
-specs-zero (suc n) x s h = rw (h, more x h .0, more x h .1)
+specification-zero : (n x : ℕ) (s : List ℕ) → odd x ≡ false → specification (suc n) ((x + 1) ∷ 0 ∷ s) ≡ specification (suc n) (x ∷ s)
+unfolding specification
+specification-zero zero x s h = rw (h, more x h .0, more x h .1)
+specification-zero (suc n) x s h = rw (h, more x h .0, more x h .1)
 
 pub second-zero : (c : Category) → 2 ≤ c .most → (x : ℕ) (s : List ℕ) → odd x ≡ false → recordOf c ((x + 1) ∷ 0 ∷ s) ≡ recordOf c (x ∷ s)
 unfolding recordOf
 second-zero c two x s h =
     let e : c .most - 1 ≡ suc (c .most - 2) = omega arith in
-    rw (e, specs-zero (c .most - 2) x s h)
+    rw (e, specification-zero (c .most - 2) x s h)

@@ -8,7 +8,7 @@ use borrow.Author.Tests.{le-ltb, leb-false}
 use lib.Dec.{leb}
 use lib.ListN.{length, getD}
 use Rattle.octets.specs.Numbers.{Octets, number}
-use Rattle.layouts.specs.Formats.{Answer, refused, got}
+use Rattle.layouts.specs.Formats.{Parsed, refused, got}
 use Rattle.layouts.specs.Categories.{Category, category}
 use Rattle.layouts.specs.Alike.{SameBefore}
 use Rattle.blocks.specs.Headers.{headerOf}
@@ -26,7 +26,7 @@ use Rattle.blocks.specs.declared.cursor.Step.{Step}
 use Rattle.blocks.specs.declared.cursor.Step.the-variants as step
 use Rattle.blocks.specs.declared.cursor.Found.{Found}
 use Rattle.blocks.proofs.HeaderLaws.{header-good}
-use Rattle.blocks.proofs.BeforeLaws.{specs-before, record-before, records-before}
+use Rattle.blocks.proofs.BeforeLaws.{specification-before, record-before, records-before}
 use Rattle.blocks.proofs.AlikeLaws.{record-alike-at}
 use Rattle.blocks.proofs.ReadSteps.{record-parts}
 use Rattle.blocks.proofs.ItemStarts.{start-before, start-alike}
@@ -43,7 +43,7 @@ module _ (s t : List ℕ) (start : ℕ) where
         → typedRec s len (category cat) r (itemsFrom s len (category cat) start) ≡ typedRec t len (category cat) r (itemsFrom t len (category cat) start)
 
   -- a record of a block
-  same-taken : (len : ℕ) (c : Category) (a : Answer ℕ Rec)
+  same-taken : (len : ℕ) (c : Category) (a : Parsed ℕ Rec)
       → ((r : Rec) (q : ℕ) → a ≡ got r q → typedRec s len c r (itemsFrom s len c start) ≡ typedRec t len c r (itemsFrom t len c start))
       → takenBy Step.Refused (λ r q. Step.Taken r (record { at = q })) s len c start a
       ≡ takenBy Step.Refused (λ r q. Step.Taken r (record { at = q })) t len c start a
@@ -156,7 +156,7 @@ module _ (s t : List ℕ) (first : (i : ℕ) → i < 3 → getD s i 0 ≡ getD t
       head = same-header;
       is = λ cat len e. record-before len s t (before-len cat len e) (category cat) start;
       typed = λ cat len e r q h.
-          rw (specs-before len s t (before-len cat len e) (category cat .most - 1) start)
+          rw (specification-before len s t (before-len cat len e) (category cat .most - 1) start)
           (same-typed s t len (category cat) r _ (start-before len s t (before-len cat len e) (layoutOf (category cat) (r .marks)) _));
     }
 
@@ -173,7 +173,7 @@ module _ (s t : List ℕ) (first : (i : ℕ) → i < 3 → getD s i 0 ≡ getD t
   records-alike len c (suc n) at h =
       rw (← record-alike-at s t len c at (h .0), go (recordAt s len c at) (records-alike len c n) (h .1))
     where
-      go : (a : Answer ℕ Rec) → ((q : ℕ) → RecordsAlikeAt s t len c n q → recordsAt s len c n q ≡ recordsAt t len c n q)
+      go : (a : Parsed ℕ Rec) → ((q : ℕ) → RecordsAlikeAt s t len c n q → recordsAt s len c n q ≡ recordsAt t len c n q)
           → IfGot a (λ r q. RecordsAlikeAt s t len c n q)
           → firstAt at a (λ q. recordsAt s len c n q) ≡ firstAt at a (λ q. recordsAt t len c n q)
       go (refused m) ih k = refl
@@ -195,7 +195,7 @@ module _ (s t : List ℕ) (first : (i : ℕ) → i < 3 → getD s i 0 ≡ getD t
           let c = category cat in
           let (p, spec, items, z, y) = record-parts s len c start q r is in
           let rest : AllAlikeAt s t len (layoutOf c (r .marks)) p
-          = subst (λ (m : Answer ℕ (List ℕ)). IfGot m (λ gs p. AllAlikeAt s t len (layoutOf c gs) p)) spec (h cat len e .1) in
+          = subst (λ (m : Parsed ℕ (List ℕ)). IfGot m (λ gs p. AllAlikeAt s t len (layoutOf c gs) p)) spec (h cat len e .1) in
           rw (← h cat len e .0, spec) (same-typed s t len c r p (start-alike len s t (layoutOf c (r .marks)) p q (r .items) rest items));
     }
 

@@ -5,7 +5,7 @@ use mathlib.Core.List.{List}
 use Prim.Native.Nat.{ℕ}
 use Rattle.layouts.specs.Formats.{got}
 use Rattle.layouts.specs.Categories.{cat23}
-use Rattle.layouts.proofs.Answers.{of-pick}
+use Rattle.layouts.proofs.Parsed.{of-pick}
 use Rattle.blocks.specs.Records.{Rec}
 use Rattle.blocks.specs.Offsets.{recordAt}
 use Rattle.blocks.specs.Typed.{typedBy, typedRec}

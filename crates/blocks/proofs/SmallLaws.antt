@@ -43,11 +43,11 @@ bits-small : (s : List ℕ) (at : ℕ) → Small (sourceOf (traceAt (format (lay
 unfolding traceAt format values
 bits-small s at = (mod-lt _ (omega arith), mod-lt _ (omega arith))
 
-taking-small : (s : List ℕ) (len number at : ℕ) (t : Record) (next : ℕ) → len ≤ length s → known number ≡ true → Octets s
-    → Taking s len number at t next → Small (t .source)
+taking-small : (s : List ℕ) (len cat at : ℕ) (t : Record) (next : ℕ) → len ≤ length s → known cat ≡ true → Octets s
+    → Taking s len cat at t next → Small (t .source)
 unfolding typedRec
-taking-small s len number at t next fit k o w =
-    let (x, h) = form-values s len number at o fit k (w .r) next (w .is) Form.Source in
+taking-small s len cat at t next fit k o w =
+    let (x, h) = form-values s len cat at o fit k (w .r) next (w .is) Form.Source in
     rw (w .same, ← h 0 0, ← h 0 1) (bits-small s x)
 
 pub source-small : (s : List ℕ) (start : ℕ) (t : Record) (c : Cursor) → Octets s → Step.Taken t c ≡ stepOf s start → Small (t .source)

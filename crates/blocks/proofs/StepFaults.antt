@@ -8,7 +8,7 @@ use borrow.Author.Tests.{ltb-true, ltb-false, leb-true, leb-false, lt-leb, le-lt
 use lib.Dec.{leb, ltb}
 use Rattle.octets.specs.Refusals.{noSuch}
 use Rattle.octets.proofs.Cases.{test, choose}
-use Rattle.layouts.specs.Formats.{Answer, refused, got}
+use Rattle.layouts.specs.Formats.{Parsed, refused, got}
 use Rattle.layouts.specs.Categories.{category}
 use Rattle.blocks.specs.Headers.{headerOf}
 use Rattle.blocks.specs.Records.{Rec}
@@ -51,7 +51,7 @@ module _ (s : List ℕ) (start : ℕ) where
   step-cases P refuses outside faulty takes = by-head (headerOf s) refl
     where
       by-record : (cat len : ℕ) → headerOf s ≡ Head.Good cat len → 3 ≤ start → start < len
-          → (m : Answer ℕ Rec) → recordAt s len (category cat) start ≡ m → P (stepOf s start)
+          → (m : Parsed ℕ Rec) → recordAt s len (category cat) start ≡ m → P (stepOf s start)
       by-record cat len h a b (refused n) e = subst P (sym (step-faulty cat len h n a b e)) (faulty cat len h a b n e)
       by-record cat len h a b (got r q) e = subst P (sym (step-read s cat len h start q r a b e)) (takes cat len h a b r q e _)
 

@@ -11,7 +11,7 @@ use Rattle.octets.specs.Choice.{pick}
 use Rattle.octets.specs.Numbers.{Octets, number}
 use Rattle.octets.specs.Refusals.{noSuch}
 use Rattle.layouts.specs.Groups.{values}
-use Rattle.layouts.specs.Formats.{Answer, refused, got}
+use Rattle.layouts.specs.Formats.{Parsed, refused, got}
 use Rattle.layouts.specs.Tables.{counter, version}
 use Rattle.layouts.specs.Categories.{category}
 use Rattle.items.specs.Typed.{counterOf, versionOf}
@@ -38,34 +38,34 @@ use Rattle.blocks.proofs.TypedLaws.{entries-within}
 walked-on : {q c n at : ℕ} → Walked.To q c ≡ Walked.Refused n at → ⊥
 walked-on h = let z : _≡_ {A = ℕ} 0 1 = cc in omega arith
 
-module _ (s : List ℕ) (len number at : ℕ) (more : at < len) where
-  abbrev one : Answer ℕ Rec → Walked
-  one a = onward s len (category number) at a (λ q. runOf s len (category number) 0 q (0 + 1))
+module _ (s : List ℕ) (len cat at : ℕ) (more : at < len) where
+  abbrev one : Parsed ℕ Rec → Walked
+  one a = onward s len (category cat) at a (λ q. runOf s len (category cat) 0 q (0 + 1))
 
-  is-one : (w : Walked) → w ≡ runOf s len (category number) 1 at 0 → w ≡ one (recordAt s len (category number) at)
-  is-one w e = e ∙ sym (run-one s len (category number) at 1 0 0 refl more)
+  is-one : (w : Walked) → w ≡ runOf s len (category cat) 1 at 0 → w ≡ one (recordAt s len (category cat) at)
+  is-one w e = e ∙ sym (run-one s len (category cat) at 1 0 0 refl more)
 
-  pub take-refused : (n start : ℕ) → Walked.Refused n start ≡ runOf s len (category number) 1 at 0
-      → Step.Refused n start ≡ takeOf s len number at
+  pub take-refused : (n start : ℕ) → Walked.Refused n start ≡ runOf s len (category cat) 1 at 0
+      → Step.Refused n start ≡ takeOf s len cat at
   unfolding takeOf takeBy
-  take-refused n start e = go (recordAt s len (category number) at) (is-one _ e)
+  take-refused n start e = go (recordAt s len (category cat) at) (is-one _ e)
     where
-      go : (a : Answer ℕ Rec) → Walked.Refused n start ≡ one a
-          → Step.Refused n start ≡ takenBy Step.Refused (λ t q. Step.Taken t (record { at = q })) s len (category number) at a
+      go : (a : Parsed ℕ Rec) → Walked.Refused n start ≡ one a
+          → Step.Refused n start ≡ takenBy Step.Refused (λ t q. Step.Taken t (record { at = q })) s len (category cat) at a
       go (refused m) h = let a : n ≡ m = cc in let b : start ≡ at = cc in rw (a, b)
-      go (got r q) h = absurd (walked-on (run-none s len (category number) q 0 1 refl ∙ sym h))
+      go (got r q) h = absurd (walked-on (run-none s len (category cat) q 0 1 refl ∙ sym h))
 
-  pub take-taken : (q c : ℕ) → Walked.To q c ≡ runOf s len (category number) 1 at 0
-      → (t : Record) → ((r : Rec) (p : ℕ) → recordAt s len (category number) at ≡ got r p → t ≡ typedRec s len (category number) r (itemsFrom s len (category number) at))
-      → Step.Taken t (record { at = q }) ≡ takeOf s len number at
+  pub take-taken : (q c : ℕ) → Walked.To q c ≡ runOf s len (category cat) 1 at 0
+      → (t : Record) → ((r : Rec) (p : ℕ) → recordAt s len (category cat) at ≡ got r p → t ≡ typedRec s len (category cat) r (itemsFrom s len (category cat) at))
+      → Step.Taken t (record { at = q }) ≡ takeOf s len cat at
   unfolding takeOf takeBy
-  take-taken q c e t h = go (recordAt s len (category number) at) refl (is-one _ e)
+  take-taken q c e t h = go (recordAt s len (category cat) at) refl (is-one _ e)
     where
-      go : (a : Answer ℕ Rec) → recordAt s len (category number) at ≡ a → Walked.To q c ≡ one a
-          → Step.Taken t (record { at = q }) ≡ takenBy Step.Refused (λ t q. Step.Taken t (record { at = q })) s len (category number) at a
+      go : (a : Parsed ℕ Rec) → recordAt s len (category cat) at ≡ a → Walked.To q c ≡ one a
+          → Step.Taken t (record { at = q }) ≡ takenBy Step.Refused (λ t q. Step.Taken t (record { at = q })) s len (category cat) at a
       go (refused m) f g = absurd (walked-on g)
       go (got r p) f g =
-          let same : Walked.To q c ≡ Walked.To p 1 = g ∙ sym (run-none s len (category number) p 0 1 refl) in
+          let same : Walked.To q c ≡ Walked.To p 1 = g ∙ sym (run-none s len (category cat) p 0 1 refl) in
           let a : q ≡ p = cc in
           rw (a, h r p f)
 
@@ -92,29 +92,29 @@ pub not-taken : {n at : ℕ} {t : Record} {c : Cursor} → Step.Refused n at ≡
 not-taken h = let z : _≡_ {A = ℕ} 0 1 = cc in omega arith
 
 -- what a step inside a block says
-module _ (s : List ℕ) (len number at : ℕ) where
+module _ (s : List ℕ) (len cat at : ℕ) where
   -- of the record that was taken
   pub record Taking (t : Record) (next : ℕ) : Type 0 where
     pub r : Rec
-    pub is : recordAt s len (category number) at ≡ got r next
-    pub same : t ≡ typedRec s len (category number) r (itemsFrom s len (category number) at)
+    pub is : recordAt s len (category cat) at ≡ got r next
+    pub same : t ≡ typedRec s len (category cat) r (itemsFrom s len (category cat) at)
 
-  abbrev by : Answer ℕ Rec → Step
-  by = takenBy Step.Refused (λ t q. Step.Taken t (record { at = q })) s len (category number) at
+  abbrev by : Parsed ℕ Rec → Step
+  by = takenBy Step.Refused (λ t q. Step.Taken t (record { at = q })) s len (category cat) at
 
-  pub take-took : (t : Record) (c : Cursor) → takeOf s len number at ≡ Step.Taken t c → Taking t (c .at)
+  pub take-took : (t : Record) (c : Cursor) → takeOf s len cat at ≡ Step.Taken t c → Taking t (c .at)
   unfolding takeOf takeBy
-  take-took t c = go (recordAt s len (category number) at) refl
+  take-took t c = go (recordAt s len (category cat) at) refl
     where
-      go : (a : Answer ℕ Rec) → recordAt s len (category number) at ≡ a → by a ≡ Step.Taken t c → Taking t (c .at)
+      go : (a : Parsed ℕ Rec) → recordAt s len (category cat) at ≡ a → by a ≡ Step.Taken t c → Taking t (c .at)
       go (refused n) e h = absurd (not-taken h)
       go (got r q) e h = record { r = r; is = e ∙ cc; same = cc }
 
-  pub take-stopped : (n p : ℕ) → takeOf s len number at ≡ Step.Refused n p → recordAt s len (category number) at ≡ refused n
+  pub take-stopped : (n p : ℕ) → takeOf s len cat at ≡ Step.Refused n p → recordAt s len (category cat) at ≡ refused n
   unfolding takeOf takeBy
-  take-stopped n p = go (recordAt s len (category number) at) refl
+  take-stopped n p = go (recordAt s len (category cat) at) refl
     where
-      go : (a : Answer ℕ Rec) → recordAt s len (category number) at ≡ a → by a ≡ Step.Refused n p → recordAt s len (category number) at ≡ refused n
+      go : (a : Parsed ℕ Rec) → recordAt s len (category cat) at ≡ a → by a ≡ Step.Refused n p → recordAt s len (category cat) at ≡ refused n
       go (refused m) e h = e ∙ cc
       go (got r q) e h = absurd (not-taken (sym h))
 

@@ -42,11 +42,11 @@ unfolding traceAt format values
 service-narrow s at = (mod-lt _ (omega arith), mod-lt _ (omega arith))
 
 -- a record of a block that was taken at an offset
-taking-narrow : (s : List ℕ) (len number at : ℕ) (t : Record) (next : ℕ) → len ≤ length s → known number ≡ true → Octets s
-    → Taking s len number at t next → Narrow (t .service)
+taking-narrow : (s : List ℕ) (len cat at : ℕ) (t : Record) (next : ℕ) → len ≤ length s → known cat ≡ true → Octets s
+    → Taking s len cat at t next → Narrow (t .service)
 unfolding typedRec
-taking-narrow s len number at t next fit k o w =
-    let (x, h) = form-values s len number at o fit k (w .r) next (w .is) Form.Service in
+taking-narrow s len cat at t next fit k o w =
+    let (x, h) = form-values s len cat at o fit k (w .r) next (w .is) Form.Service in
     rw (w .same, ← h 0 0, ← h 0 1) (service-narrow s x)
 
 -- the same of a step

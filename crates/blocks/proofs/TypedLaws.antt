@@ -30,12 +30,12 @@ use Rattle.items.proofs.Items.{times-trace}
 use Rattle.blocks.specs.Specification.{flags}
 use Rattle.blocks.specs.Marks.{marksOf, flagsOf, marked, groupsOf}
 use Rattle.blocks.specs.Records.{Rec, formats, layoutOf}
-use Rattle.blocks.specs.Offsets.{specsAt, itemsAt, recordAt}
+use Rattle.blocks.specs.Offsets.{specificationAt, itemsAt, recordAt}
 use Rattle.blocks.specs.Typed.{typed, fieldFor, placeIn, startIn, valuesFor, startFor, typedRec}
 use Rattle.blocks.specs.Steps.{itemsFrom, entryGroupOf, entryValues}
 use Rattle.blocks.specs.declared.record.Record.{Record}
 use Rattle.blocks.proofs.AtEnd.{end-value, end-place}
-use Rattle.blocks.proofs.MarksLaws.{flags-32, flags-long, formats-more, mark-more, specs-marked}
+use Rattle.blocks.proofs.MarksLaws.{flags-32, flags-long, formats-more, mark-more, specification-marked}
 use Rattle.blocks.proofs.FormLaws.{field-form}
 use Rattle.blocks.proofs.WalkSteps.{item-run, table}
 use Rattle.blocks.proofs.ItemStarts.{first-start, formats-at, formats-few, items-there, items-end}
@@ -168,10 +168,10 @@ module _ (s : List ℕ) (len : ℕ) (c : Category) (gs : List ℕ) (p : ℕ) (tr
       go false h = none refl (h .0)
 
 -- records with the same values and places are the same
-typed-same : (number marks : ℕ) (v w : Form → Trace) (p q : Form → ℕ → Place) → ((f : Form) (j i : ℕ) → val (v f) j i ≡ val (w f) j i)
-    → p (entriesForm number) 0 ≡ q (entriesForm number) 0
-    → p Form.Expansion 1 ≡ q Form.Expansion 1 → p Form.Purpose 1 ≡ q Form.Purpose 1 → typed number marks v p ≡ typed number marks w q
-typed-same number marks v w p q h a b d = rw (a, b, d) (simp h)
+typed-same : (cat marks : ℕ) (v w : Form → Trace) (p q : Form → ℕ → Place) → ((f : Form) (j i : ℕ) → val (v f) j i ≡ val (w f) j i)
+    → p (entriesForm cat) 0 ≡ q (entriesForm cat) 0
+    → p Form.Expansion 1 ≡ q Form.Expansion 1 → p Form.Purpose 1 ≡ q Form.Purpose 1 → typed cat marks v p ≡ typed cat marks w q
+typed-same cat marks v w p q h a b d = rw (a, b, d) (simp h)
 
 -- entries are counted, and so is the content of RE and of SP
 entries-counted : (b : Bool) → format (layout (pick b Form.Versions Form.Statistics)) ≡ counted 0 (pick b version counter)
@@ -183,29 +183,29 @@ content-counted : (format (layout Form.Expansion) ≡ counted 1 octet) × (forma
 unfolding format
 content-counted = (refl, refl)
 
-module _ (s : List ℕ) (len number at : ℕ) (o : Octets s) (fit : len ≤ length s) (k : known number ≡ true) where
+module _ (s : List ℕ) (len cat at : ℕ) (o : Octets s) (fit : len ≤ length s) (k : known cat ≡ true) where
   -- where the item of a form is found: at its start where it is marked, else at the end of the octets
   abbrev pub found : Rec → ℕ → Form → ℕ
   found r p f =
-      let c = category number in
+      let c = category cat in
       pick (marked (marksOf (flags (r .marks))) (fieldFor (c .fields) f)) (startFor s len c r p f) (length s)
 
   -- a record that was read: its specification, the item of each form, and where the last ends
   pub record Taken (r : Rec) (q : ℕ) : Type 0 where
     pub behind : ℕ
-    pub spec : specsAt s len (category number .most - 1) at ≡ got (r .marks) behind
+    pub spec : specificationAt s len (category cat .most - 1) at ≡ got (r .marks) behind
     pub marks-are : marksOf (flags (r .marks)) ≡ marksOf (flags (groupsOf (behind - at) s at))
-    pub formats-are : formats (flagsOf 32 (marksOf (flags (r .marks)))) (category number .fields) ≡ layoutOf (category number) (r .marks)
-    pub end : (n : ℕ) → length (category number .fields) ≤ n → startIn s len (layoutOf (category number) (r .marks)) behind n ≡ q
+    pub formats-are : formats (flagsOf 32 (marksOf (flags (r .marks)))) (category cat .fields) ≡ layoutOf (category cat) (r .marks)
+    pub end : (n : ℕ) → length (category cat .fields) ≤ n → startIn s len (layoutOf (category cat) (r .marks)) behind n ≡ q
     items : (f : Form)
-        → Held s len (format (layout f)) (found r behind f) (valuesFor (category number) r f) (startFor s len (category number) r behind f)
+        → Held s len (format (layout f)) (found r behind f) (valuesFor (category cat) r f) (startFor s len (category cat) r behind f)
 
-  pub taken : (r : Rec) (q : ℕ) → recordAt s len (category number) at ≡ got r q → Taken r q
+  pub taken : (r : Rec) (q : ℕ) → recordAt s len (category cat) at ≡ got r q → Taken r q
   taken r q h =
-      let c = category number in
-      let t = table number k in
+      let c = category cat in
+      let t = table cat k in
       let (p, e, e', z, y) = record-parts s len c at q r h in
-      let w = specs-marked s len (c .most - 1) at (r .marks) p o e in
+      let w = specification-marked s len (c .most - 1) at (r .marks) p o e in
       let few : length (r .marks) ≤ 4 = omega arith in
       let long : length (flags (r .marks)) ≡ length (c .fields) = omega (arith, flags-long (r .marks)) in
       record {
@@ -219,58 +219,58 @@ module _ (s : List ℕ) (len number at : ℕ) (o : Octets s) (fit : len ≤ leng
 
   -- The typed record that is made of the octets where its items are found is the record that was read.
   pub typed-found : (r : Rec) (q : ℕ) (w : Taken r q)
-      → typed (category number .number) (marksOf (flags (r .marks)))
+      → typed (category cat .cat) (marksOf (flags (r .marks)))
       (λ f. traceAt (format (layout f)) s (found r (w .behind) f)) (λ f e. placeAt s (found r (w .behind) f) e)
-      ≡ typedRec s len (category number) r (w .behind)
+      ≡ typedRec s len (category cat) r (w .behind)
   unfolding typedRec
   typed-found r q w =
-      let c = category number in
+      let c = category cat in
       let v : Form → Trace = valuesFor c r in
       let from : Form → ℕ = startFor s len c r (w .behind) in
       let start : Form → ℕ = found r (w .behind) in
-      let entries = entriesForm (c .number) in
+      let entries = entriesForm (c .cat) in
       let place : (f : Form) (e : ℕ) (g : Group) → format (layout f) ≡ counted e g → placeAt s (start f) e ≡ placeIn (from f) e (v f)
       = λ f e g is. held-place s len (format (layout f)) e g (start f) (v f) (from f) is (w .items f) e in
-      typed-same (c .number) (marksOf (flags (r .marks)))
+      typed-same (c .cat) (marksOf (flags (r .marks)))
       (λ f. traceAt (format (layout f)) s (start f)) v (λ f e. placeAt s (start f) e) (λ f e. placeIn (from f) e (v f))
       (λ f. held-value s len (format (layout f)) (start f) (v f) (from f) (w .items f))
-      (place entries 0 (pick (eqb (c .number) 242) version counter) (entries-counted (eqb (c .number) 242)))
+      (place entries 0 (pick (eqb (c .cat) 242) version counter) (entries-counted (eqb (c .cat) 242)))
       (place Form.Expansion 1 octet (content-counted .0))
       (place Form.Purpose 1 octet (content-counted .1))
 
   -- The values of an item are those that stand at some offset.
-  pub form-values : (r : Rec) (q : ℕ) → recordAt s len (category number) at ≡ got r q → (f : Form)
-      → (x : ℕ) × ((j i : ℕ) → val (traceAt (format (layout f)) s x) j i ≡ val (valuesFor (category number) r f) j i)
+  pub form-values : (r : Rec) (q : ℕ) → recordAt s len (category cat) at ≡ got r q → (f : Form)
+      → (x : ℕ) × ((j i : ℕ) → val (traceAt (format (layout f)) s x) j i ≡ val (valuesFor (category cat) r f) j i)
   form-values r q h f =
       let w = taken r q h in
       (found r (w .behind) f, held-value s len (format (layout f)) _ _ _ (w .items f))
 
   -- The entries of a record that was read lie within the block.
-  pub entries-within : (r : Rec) (q : ℕ) → recordAt s len (category number) at ≡ got r q
-      → (t : Record) → t ≡ typedRec s len (category number) r (itemsFrom s len (category number) at)
+  pub entries-within : (r : Rec) (q : ℕ) → recordAt s len (category cat) at ≡ got r q
+      → (t : Record) → t ≡ typedRec s len (category cat) r (itemsFrom s len (category cat) at)
       → t .entries .at + t .entries .count * entryGroupOf (t .category) .wide ≤ len
   unfolding typedRec
   entries-within r q h t is =
-      let c = category number in
+      let c = category cat in
       let w = taken r q h in
-      let entries = entriesForm (c .number) in
+      let entries = entriesForm (c .cat) in
       rw (is, w .spec)
-      (held-within s len fit (format (layout entries)) (entryGroupOf (c .number))
+      (held-within s len fit (format (layout entries)) (entryGroupOf (c .cat))
       (found r (w .behind) entries) (valuesFor c r entries) (startFor s len c r (w .behind) entries)
-      (entries-counted (eqb (c .number) 242)) (w .items entries))
+      (entries-counted (eqb (c .cat) 242)) (w .items entries))
 
   -- Entry n of a record that was read is the one that its item's values have.
-  pub entry-values : (r : Rec) (q : ℕ) → recordAt s len (category number) at ≡ got r q
-      → (t : Record) → t ≡ typedRec s len (category number) r (itemsFrom s len (category number) at) → (n : ℕ) → n < t .entries .count
+  pub entry-values : (r : Rec) (q : ℕ) → recordAt s len (category cat) at ≡ got r q
+      → (t : Record) → t ≡ typedRec s len (category cat) r (itemsFrom s len (category cat) at) → (n : ℕ) → n < t .entries .count
       → entryValues s (entryGroupOf (t .category)) (t .entries .at) n
-      ≡ getD (valuesFor (category number) r (entriesForm (category number .number))) (suc n) []
+      ≡ getD (valuesFor (category cat) r (entriesForm (category cat .cat))) (suc n) []
   unfolding typedRec
   entry-values r q h t is n l =
-      let c = category number in
+      let c = category cat in
       let w = taken r q h in
-      let entries = entriesForm (c .number) in
+      let entries = entriesForm (c .cat) in
       let l' : n < placeIn (startFor s len c r (w .behind) entries) 0 (valuesFor c r entries) .count = rw (is, w .spec) at l in
       rw (is, w .spec)
-      (held-entry s len fit (format (layout entries)) (entryGroupOf (c .number))
+      (held-entry s len fit (format (layout entries)) (entryGroupOf (c .cat))
       (found r (w .behind) entries) (valuesFor c r entries) (startFor s len c r (w .behind) entries)
-      (entries-counted (eqb (c .number) 242)) (w .items entries) n l')
+      (entries-counted (eqb (c .cat) 242)) (w .items entries) n l')

@@ -14,27 +14,27 @@ use Rattle.octets.specs.Choice.{pick}
 use Rattle.octets.specs.Numbers.{Octets, number}
 use Rattle.octets.specs.Refusals.{longSpecification, spareMarked, noneMarked, presenceBroken}
 use Rattle.octets.proofs.Cases.{neither}
-use Rattle.layouts.specs.Formats.{Answer, refused, got, andThen, Format, Trace, fitsIn}
+use Rattle.layouts.specs.Formats.{Parsed, refused, got, andThen, Format, Trace, fitsIn}
 use Rattle.layouts.specs.Offsets.{runAt, itemAt, traceAt}
 use Rattle.layouts.specs.Layouts.{Layout, unused, fixed, extended, repeated, explicit, isUnused, chain, counted, format}
 use Rattle.layouts.specs.Ends.{endOf, chainEnd}
 use Rattle.layouts.specs.Tables.{layout}
 use Rattle.layouts.specs.Categories.{Category, known, category, formAt}
-use Rattle.layouts.proofs.Answers.{got-refused, pick-yes, through}
+use Rattle.layouts.proofs.Parsed.{got-refused, pick-yes, through}
 use Rattle.layouts.proofs.Windows.{run-trace, run-within}
 use Rattle.layouts.specs.declared.ends.End.{End}
 use Rattle.layouts.specs.declared.ends.End.the-variants.{At, Refused}
 use Rattle.layouts.specs.declared.form.Form.{Form}
 use Rattle.blocks.specs.Specification.{flags}
-use Rattle.layouts.specs.Presence.{rowsOf, meets}
+use Rattle.layouts.specs.Presence.{needsOf, meets}
 use Rattle.blocks.specs.Marks.{marksOf, flagsOf, groupsOf, nextMarked}
-use Rattle.blocks.specs.Records.{Rec, formats, marksSpare, layoutOf, unmarked, marksRefusal, numberRefusal, isType, valueOr, typeIn, typeOf, present}
-use Rattle.blocks.specs.Offsets.{specsAt, itemsAt, recordAt}
+use Rattle.blocks.specs.Records.{Rec, formats, marksSpare, layoutOf, unmarked, specificationRefusal, marksRefusal, isType, valueOr, typeIn, typeOf, present}
+use Rattle.blocks.specs.Offsets.{specificationAt, itemsAt, recordAt}
 use Rattle.blocks.specs.Walks.{onward, runOf, afterItems, restOf}
 use Rattle.blocks.specs.declared.walk.Walked.{Walked}
 use Rattle.items.specs.Typed.{val}
 use Rattle.blocks.proofs.NextLaws.{next-within, next-marked}
-use Rattle.blocks.proofs.MarksLaws.{flags-32, formats-more, refusal-more, meets-more, flags-long, Marked, specs-marked, spec-end}
+use Rattle.blocks.proofs.MarksLaws.{flags-32, formats-more, refusal-more, meets-more, flags-long, Marked, specification-marked, spec-end}
 
 -- what holds of the three categories holds of every one that is read
 pub by-known : (P : ℕ → Type 0) → P 23 → P 65 → P 242 → (n : ℕ) → known n ≡ true → P n
@@ -48,7 +48,7 @@ by-known P a b c n h = go (eqb n 23) (eqb n 65) (eqb n 242) refl refl refl h
 
 -- what the walks need of a category: seven fields to each of one or two specification octets
 pub record Table (n : ℕ) (c : Category) : Type 0 where
-  pub number : c .number ≡ n
+  pub cat : c .cat ≡ n
   pub long : length (c .fields) ≡ c .most * 7
   pub some : 1 ≤ c .most
   pub few : c .most ≤ 2
@@ -56,17 +56,17 @@ pub record Table (n : ℕ) (c : Category) : Type 0 where
 pub table : (n : ℕ) → known n ≡ true → Table n (category n)
 table =
     by-known (λ (n : ℕ). Table n (category n))
-    (record { number = refl; long = refl; some = omega arith; few = omega arith })
-    (record { number = refl; long = refl; some = omega arith; few = omega arith })
-    (record { number = refl; long = refl; some = omega arith; few = omega arith })
+    (record { cat = refl; long = refl; some = omega arith; few = omega arith })
+    (record { cat = refl; long = refl; some = omega arith; few = omega arith })
+    (record { cat = refl; long = refl; some = omega arith; few = omega arith })
 
 -- the answer that has an end
 module _ {A : Type 0} where
-  abbrev Ended : Answer ℕ A → End → Type 0
+  abbrev Ended : Parsed ℕ A → End → Type 0
   Ended m (At q) = (a : A) × (m ≡ got a q)
   Ended m (Refused n) = m ≡ refused n
 
-  ended : (m : Answer ℕ A) {r : End} → r ≡ endOf m → Ended m r
+  ended : (m : Parsed ℕ A) {r : End} → r ≡ endOf m → Ended m r
   ended (refused n) h = subst (Ended (refused n)) (sym h) refl
   ended (got a q) h = subst (Ended (got a q)) (sym h) (a, refl)
 
@@ -137,7 +137,7 @@ marked-inside (b ∷ bs) (f ∷ fs) zero h m = omega arith
 marked-inside (b ∷ bs) (f ∷ fs) (suc n) h m =
     omega (arith, marked-inside bs fs n (neither (b && isUnused (layout f)) (marksSpare bs fs) h .1) m)
 
-pub no-spare : (c : Category) (marks : ℕ) → numberRefusal c marks ≡ 0 → marksSpare (flagsOf 32 marks) (c .fields) ≡ false
+pub no-spare : (c : Category) (marks : ℕ) → marksRefusal c marks ≡ 0 → marksSpare (flagsOf 32 marks) (c .fields) ≡ false
 no-spare c marks = go (unmarked (flagsOf 32 marks)) (marksSpare (flagsOf 32 marks) (c .fields))
   where
     go : (none spare : Bool) → pick none noneMarked (pick spare spareMarked 0) ≡ 0 → spare ≡ false
@@ -159,7 +159,7 @@ module _ (s : List ℕ) (len : ℕ) (c : Category) (marks start budget count : �
   unfolding itemsAt formats itemAt runAt fitsIn
   left-unmarked f bs fs at typ = go (itemsAt s len (formats bs fs) at)
     where
-      go : (a : Answer ℕ (List Trace))
+      go : (a : Parsed ℕ (List Trace))
           → afterItems s len c (flagsOf 32 marks) (f ∷ fs) typ start budget count (andThen a (λ trs q. got ([] ∷ trs) q))
           ≡ afterItems s len c (flagsOf 32 marks) fs typ start budget count a
       go (refused n) = refl
@@ -188,7 +188,7 @@ module _ (s : List ℕ) (len : ℕ) (c : Category) (marks start budget count : �
     unfolding itemsAt formats
     left-passed tr q h = rw h (go (itemsAt s len (formats bs fs) q))
       where
-        go : (a : Answer ℕ (List Trace))
+        go : (a : Parsed ℕ (List Trace))
             → afterItems s len c (flagsOf 32 marks) fs (pick (isType f) (valueOr typ tr) typ) start budget count a
             ≡ afterItems s len c (flagsOf 32 marks) (f ∷ fs) typ start budget count (andThen a (λ trs q. got (tr ∷ trs) q))
         go (refused n) = refl
@@ -206,22 +206,22 @@ module _ (s : List ℕ) (len : ℕ) (c : Category) (marks start budget count : �
 
     -- behind the last item
     module _ (over : 32 < f) (n : ℕ) (t : Table n c) where
-      rest-over : pick (meets (rowsOf n) typ (flagsOf 32 marks)) (runOf s len c budget at (count + 1)) (Walked.Refused presenceBroken start)
+      rest-over : pick (meets (needsOf n) typ (flagsOf 32 marks)) (runOf s len c budget at (count + 1)) (Walked.Refused presenceBroken start)
           ≡ rest field at typ
       unfolding restOf flagsOf formats itemsAt
       rest-over =
           let none : drop (f - 1) (flagsOf 32 marks) ≡ [] = drop-of-length-le (flagsOf 32 marks) {i = f - 1} (omega arith) in
-          rw (← rest-next, none, type-end, t .number)
+          rw (← rest-next, none, type-end, t .cat)
 
-      pub rest-present : meets (rowsOf n) typ (flagsOf 32 marks) ≡ true → (r : Walked) → r ≡ runOf s len c budget at (count + 1) → r ≡ rest field at typ
+      pub rest-present : meets (needsOf n) typ (flagsOf 32 marks) ≡ true → (r : Walked) → r ≡ runOf s len c budget at (count + 1) → r ≡ rest field at typ
       rest-present m r e = e ∙ (rw m at rest-over)
 
-      pub rest-absent : meets (rowsOf n) typ (flagsOf 32 marks) ≡ false → Walked.Refused presenceBroken start ≡ rest field at typ
+      pub rest-absent : meets (needsOf n) typ (flagsOf 32 marks) ≡ false → Walked.Refused presenceBroken start ≡ rest field at typ
       rest-absent m = rw m at rest-over
 
     -- at an item
-    module _ (more : f ≤ 32) (fine : numberRefusal c marks ≡ 0) where
-      abbrev one : Answer ℕ Trace
+    module _ (more : f ≤ 32) (fine : marksRefusal c marks ≡ 0) where
+      abbrev one : Parsed ℕ Trace
       one = itemAt s len (format (layout (formAt c f))) at
 
       here : getD (flagsOf 32 marks) (f - 1) false ≡ true
@@ -281,8 +281,8 @@ module _ (s : List ℕ) (len : ℕ) (c : Category) (at : ℕ) where
 
 -- A record from its specification on
 module _ (s : List ℕ) (len : ℕ) (c : Category) (at : ℕ) where
-  abbrev specification : Answer ℕ (List ℕ)
-  specification = specsAt s len (c .most - 1) at
+  abbrev specification : Parsed ℕ (List ℕ)
+  specification = specificationAt s len (c .most - 1) at
 
   -- the specification ends at p
   pub record Spec (p : ℕ) : Type 0 where
@@ -301,7 +301,7 @@ module _ (s : List ℕ) (len : ℕ) (c : Category) (at : ℕ) where
     pub spec-at : (p : ℕ) → At p ≡ end → Octets s → Spec p
     spec-at p h o =
         let (gs, is) = spec-ended (At p) h in
-        let w = specs-marked s len (c .most - 1) at gs p o is in
+        let w = specification-marked s len (c .most - 1) at gs p o is in
         record { gs = gs; is = is; marked = w; short = omega arith }
 
     pub record-refused : (budget count : ℕ) → at < len → budget ≡ suc (budget - 1) → (w : ℕ) → Refused w ≡ end
@@ -312,7 +312,7 @@ module _ (s : List ℕ) (len : ℕ) (c : Category) (at : ℕ) where
 
   module _ (n : ℕ) (t : Table n c) (p : ℕ) (sp : Spec p) (budget count : ℕ) (more : at < len) (some : budget ≡ suc (budget - 1))
       (marks : ℕ) (is : marks ≡ marksOf (flags (groupsOf (p - at) s at)))
-      (w : ℕ) (judged : w ≡ numberRefusal c marks) where
+      (w : ℕ) (judged : w ≡ marksRefusal c marks) where
     abbrev gs : List ℕ
     gs = sp .gs
 
@@ -323,8 +323,8 @@ module _ (s : List ℕ) (len : ℕ) (c : Category) (at : ℕ) where
     same-flags : flagsOf 32 marks ≡ flags gs ++ replicate others false
     same-flags = rw (is, ← sp .marked .same) (flags-32 gs (omega arith))
 
-    same-refusal : w ≡ marksRefusal c gs
-    unfolding marksRefusal
+    same-refusal : w ≡ specificationRefusal c gs
+    unfolding specificationRefusal
     same-refusal = judged ∙ rw (same-flags, refusal-more)
 
     pub record-unmarked : (w ≡ 0 → ⊥) → Walked.Refused w at ≡ runOf s len c budget at count
@@ -344,16 +344,16 @@ module _ (s : List ℕ) (len : ℕ) (c : Category) (at : ℕ) where
         next q = runOf s len c (budget - 1) q (count + 1)
 
         met : List Trace → Bool
-        met trs = meets (rowsOf (c .number)) (typeOf c trs) (flags gs)
+        met trs = meets (needsOf (c .cat)) (typeOf c trs) (flags gs)
 
         either : (b : Bool) (rc : Rec) (q : ℕ)
             → pick b (next q) (Walked.Refused presenceBroken at) ≡ onward s len c at (pick b (got rc q) (refused presenceBroken)) next
         either true rc q = refl
         either false rc q = refl
 
-        go : (a : Answer ℕ (List Trace))
+        go : (a : Parsed ℕ (List Trace))
             → afterItems s len c (flags gs ++ replicate others false) (c .fields) 0 at (budget - 1) count a
             ≡ onward s len c at
             (andThen a (λ trs q. pick (met trs) (got (record { marks = gs; items = trs }) q) (refused presenceBroken))) next
         go (refused x) = refl
-        go (got trs q) = rw (meets-more (rowsOf (c .number)) (typeOf c trs) (flags gs) others) (either (met trs) _ q)
+        go (got trs q) = rw (meets-more (needsOf (c .cat)) (typeOf c trs) (flags gs) others) (either (met trs) _ q)

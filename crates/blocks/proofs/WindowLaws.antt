@@ -9,36 +9,36 @@ use lib.ListN.{length, getD}
 use lib.Seq.{take-length}
 use borrow.Author.Tests.{leb-true, leb-false}
 use Rattle.octets.specs.Choice.{pick, odd}
-use Rattle.layouts.specs.Formats.{Answer, refused, got, Format}
+use Rattle.layouts.specs.Formats.{Parsed, refused, got, Format}
 use Rattle.layouts.specs.Offsets.{itemAt}
 use Rattle.layouts.specs.Categories.{Category}
 use Rattle.layouts.proofs.Windows.{window, behind, behind-then, behind-pick, window-none, window-cons, window-long, item-at}
-use Rattle.blocks.specs.Records.{Rec, layoutOf, marksRefusal, present}
+use Rattle.blocks.specs.Records.{Rec, layoutOf, specificationRefusal, present}
 use Rattle.blocks.specs.Blocks.{Block, wrong, all, with, firstAt, recordsAt}
-use Rattle.blocks.specs.Offsets.{specsAt, itemsAt, recordAt}
-use Rattle.blocks.proofs.Suffixes.{specs, items, recordOf, first, records, records-step}
+use Rattle.blocks.specs.Offsets.{specificationAt, itemsAt, recordAt}
+use Rattle.blocks.proofs.Suffixes.{specification, items, recordOf, first, records, records-step}
 
-behind-choice : {A : Type 0} (s : List ℕ) (len : ℕ) (b : Bool) (k l : Answer (List ℕ) A) (m n : Answer ℕ A)
+behind-choice : {A : Type 0} (s : List ℕ) (len : ℕ) (b : Bool) (k l : Parsed (List ℕ) A) (m n : Parsed ℕ A)
     → k ≡ behind s len m → l ≡ behind s len n → pick b k l ≡ behind s len (pick b m n)
 behind-choice s len b k l m n e f = rw (e, f) (behind-pick s len b m n)
 
 module _ (s : List ℕ) (len : ℕ) (fit : len ≤ length s) where
-  pub specs-at : (n at : ℕ) → specs n (window s len at) ≡ behind s len (specsAt s len n at)
-  unfolding specs specsAt
-  specs-at zero at = go (leb len at) refl
+  pub specification-at : (n at : ℕ) → specification n (window s len at) ≡ behind s len (specificationAt s len n at)
+  unfolding specification specificationAt
+  specification-at zero at = go (leb len at) refl
     where
-      go : (b : Bool) → leb len at ≡ b → specs 0 (window s len at) ≡ behind s len (specsAt s len 0 at)
+      go : (b : Bool) → leb len at ≡ b → specification 0 (window s len at) ≡ behind s len (specificationAt s len 0 at)
       go true e = rw (window-none s len fit at (leb-true len at e), e)
       go false e = rw (window-cons s len fit at (leb-false len at e), e) (behind-pick s len (odd (getD s at 0)) _ _)
-  specs-at (suc n) at = go (leb len at) refl (specs-at n (at + 1))
+  specification-at (suc n) at = go (leb len at) refl (specification-at n (at + 1))
     where
-      go : (b : Bool) → leb len at ≡ b → specs n (window s len (at + 1)) ≡ behind s len (specsAt s len n (at + 1))
-          → specs (suc n) (window s len at) ≡ behind s len (specsAt s len (suc n) at)
+      go : (b : Bool) → leb len at ≡ b → specification n (window s len (at + 1)) ≡ behind s len (specificationAt s len n (at + 1))
+          → specification (suc n) (window s len at) ≡ behind s len (specificationAt s len (suc n) at)
       go true e ih = rw (window-none s len fit at (leb-true len at e), e)
       go false e ih =
           rw (window-cons s len fit at (leb-false len at e), e)
           (behind-choice s len (odd (getD s at 0)) _ _ _ _
-          (rw ih (behind-then s len (specsAt s len n (at + 1)) _ _ (λ gs q. refl))) refl)
+          (rw ih (behind-then s len (specificationAt s len n (at + 1)) _ _ (λ gs q. refl))) refl)
 
   pub items-at : (fs : List Format) (at : ℕ) → items fs (window s len at) ≡ behind s len (itemsAt s len fs at)
   unfolding items itemsAt
@@ -51,14 +51,14 @@ module _ (s : List ℕ) (len : ℕ) (fit : len ≤ length s) where
   pub record-at : (c : Category) (at : ℕ) → recordOf c (window s len at) ≡ behind s len (recordAt s len c at)
   unfolding recordOf recordAt
   record-at c at =
-      rw (specs-at (c .most - 1) at)
-      (behind-then s len (specsAt s len (c .most - 1) at) _ _ λ gs p.
-      behind-choice s len (eqb (marksRefusal c gs) 0) _ _ _ _
+      rw (specification-at (c .most - 1) at)
+      (behind-then s len (specificationAt s len (c .most - 1) at) _ _ λ gs p.
+      behind-choice s len (eqb (specificationRefusal c gs) 0) _ _ _ _
       (rw (items-at (layoutOf c gs) p)
       (behind-then s len (itemsAt s len (layoutOf c gs) p) _ _ (λ trs q. behind-pick s len (present c gs trs) _ _)))
       refl)
 
-  first-at : (at left : ℕ) (m : Answer ℕ Rec) (f : List ℕ → Block) (g : ℕ → Block) → len - left ≡ at
+  first-at : (at left : ℕ) (m : Parsed ℕ Rec) (f : List ℕ → Block) (g : ℕ → Block) → len - left ≡ at
       → ((q : ℕ) → f (window s len q) ≡ g q) → first len left (behind s len m) f ≡ firstAt at m g
   first-at at left (refused n) f g e h = ap (wrong n) e
   first-at at left (got r q) f g e h = ap (with r) (h q)
@@ -67,14 +67,14 @@ module _ (s : List ℕ) (len : ℕ) (fit : len ≤ length s) where
   unfolding records recordsAt
   records-at c zero at = go (leb len at) refl
     where
-      go : (b : Bool) → leb len at ≡ b → records 0 len c (window s len at) ≡ pick b (all (c .number) []) (wrong 0 0)
+      go : (b : Bool) → leb len at ≡ b → records 0 len c (window s len at) ≡ pick b (all (c .cat) []) (wrong 0 0)
       go true e = rw (window-none s len fit at (leb-true len at e))
       go false e = rw (window-cons s len fit at (leb-false len at e))
   records-at c (suc n) at = go (leb len at) refl (records-at c n)
     where
       go : (b : Bool) → leb len at ≡ b → ((q : ℕ) → records n len c (window s len q) ≡ recordsAt s len c n q)
           → records (suc n) len c (window s len at)
-          ≡ pick b (all (c .number) []) (firstAt at (recordAt s len c at) (λ q. recordsAt s len c n q))
+          ≡ pick b (all (c .cat) []) (firstAt at (recordAt s len c at) (λ q. recordsAt s len c n q))
       go true e ih = rw (window-none s len fit at (leb-true len at e))
       go false e ih =
           let l = leb-false len at e in

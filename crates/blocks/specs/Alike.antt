@@ -2,15 +2,15 @@
 use mathlib.Core.Path.{_≡_}
 use mathlib.Core.List.{List, [], _∷_}
 use Prim.Native.Nat.{ℕ, zero, suc, _-_}
-use Rattle.layouts.specs.Formats.{Answer, refused, got, Format}
+use Rattle.layouts.specs.Formats.{Parsed, refused, got, Format}
 use Rattle.layouts.specs.Alike.{AlikeAt}
 use Rattle.layouts.specs.Offsets.{itemAt}
 use Rattle.layouts.specs.Categories.{Category}
 use Rattle.blocks.specs.Records.{layoutOf}
-use Rattle.blocks.specs.Offsets.{specsAt, recordAt}
+use Rattle.blocks.specs.Offsets.{specificationAt, recordAt}
 
 -- of what was read, and of the offset behind it; of a refusal nothing
-abbrev pub IfGot : {A : Type 0} → Answer ℕ A → (A → ℕ → Type 0) → Type 0
+abbrev pub IfGot : {A : Type 0} → Parsed ℕ A → (A → ℕ → Type 0) → Type 0
 IfGot (refused n) P = Unit {0}
 IfGot (got a q) P = P a q
 
@@ -23,8 +23,8 @@ module _ (s t : List ℕ) (len : ℕ) where
   -- and the specification reads the same
   abbrev pub RecordAlikeAt : Category → ℕ → Type 0
   RecordAlikeAt c at =
-      (specsAt s len (c .most - 1) at ≡ specsAt t len (c .most - 1) at)
-      × IfGot (specsAt s len (c .most - 1) at) (λ gs p. AllAlikeAt (layoutOf c gs) p)
+      (specificationAt s len (c .most - 1) at ≡ specificationAt t len (c .most - 1) at)
+      × IfGot (specificationAt s len (c .most - 1) at) (λ gs p. AllAlikeAt (layoutOf c gs) p)
 
   -- record after record, at most n of them
   abbrev pub RecordsAlikeAt : Category → ℕ → ℕ → Type 0

@@ -5,7 +5,7 @@ use lib.Dec.{leb}
 use lib.ListN.{length}
 use Rattle.octets.specs.Choice.{pick}
 use Rattle.octets.specs.Numbers.{octets}
-use Rattle.layouts.specs.Formats.{Answer, refused, got}
+use Rattle.layouts.specs.Formats.{Parsed, refused, got}
 use Rattle.layouts.specs.Categories.{Category, category}
 use Rattle.blocks.specs.Headers.{headerOf}
 use Rattle.blocks.specs.declared.header.Head.{Head}
@@ -13,7 +13,7 @@ use Rattle.blocks.specs.declared.header.Head.the-variants.{Good, Refused
 use Rattle.blocks.specs.Records.{Rec, putRec}
 use Rattle.blocks.specs.Offsets.{recordAt}
 
--- a refusal number and the offset of the faulty record's first octet; or the category's number and the records
+-- a refusal number and the offset of the faulty record's first octet; or CAT and the records
 pub data Block : Type 0 where
   wrong : ℕ → ℕ → Block
   all : ℕ → List Rec → Block
@@ -22,8 +22,8 @@ abbrev pub with : Rec → Block → Block
 with r (wrong n at) = wrong n at
 with r (all cat rs) = all cat (r ∷ rs)
 
--- the first record's answer, where it starts and, where it is good, the others'
-abbrev pub firstAt : ℕ → Answer ℕ Rec → (ℕ → Block) → Block
+-- what was read of the first record, where it starts and, where it is good, the others'
+abbrev pub firstAt : ℕ → Parsed ℕ Rec → (ℕ → Block) → Block
 firstAt at (refused m) others = wrong m at
 firstAt at (got r q) others = with r (others q)
 
@@ -31,10 +31,10 @@ firstAt at (got r q) others = with r (others q)
 module _ (s : List ℕ) (len : ℕ) (c : Category) where
   unfoldable pub recordsAt : ℕ → ℕ → Block
   -- with octets left: never met where n is LEN, since a record has an octet at least (proofs/ReadSteps.antt `record-within`), and so no reader's answer
-  recordsAt zero at = pick (leb len at) (all (c .number) []) (wrong 0 0)
+  recordsAt zero at = pick (leb len at) (all (c .cat) []) (wrong 0 0)
   recordsAt (suc n) at =
       let next = firstAt at (recordAt s len c at) (λ q. recordsAt n q) in
-      pick (leb len at) (all (c .number) []) next
+      pick (leb len at) (all (c .cat) []) next
 
 -- the header, and then record by record; octets after LEN are not read
 abbrev pub blockFrom : List ℕ → Head → Block

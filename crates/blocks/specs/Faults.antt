@@ -20,7 +20,7 @@ use Rattle.layouts.specs.declared.ends.Kind.the-variants.{Spare, Fixed, Extende
 use Rattle.layouts.specs.declared.form.Form.{Form}
 use Rattle.blocks.specs.Specification.{flags}
 use Rattle.blocks.specs.Records.{layoutOf, present}
-use Rattle.blocks.specs.Offsets.{specsAt, itemsAt}
+use Rattle.blocks.specs.Offsets.{specificationAt, itemsAt}
 
 -- The header; CAT is the first octet, LEN the next two
 
@@ -99,7 +99,7 @@ module _ (s : List ℕ) (len : ℕ) (c : Category) (at : ℕ) where
 
   -- the specification is read, and the items start behind it
   abbrev pub Read : List ℕ → ℕ → Type 0
-  Read gs p = specsAt s len (c .most - 1) at ≡ got gs p
+  Read gs p = specificationAt s len (c .most - 1) at ≡ got gs p
 
   -- and neither 6 nor 5 is given
   abbrev pub GoodMarks : List ℕ → ℕ → Type 0

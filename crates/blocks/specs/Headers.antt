@@ -28,15 +28,15 @@ headerOf = headerBy Head.Refused Head.Good
 -- The answer's cases, with document 01's number and values
 
 pub record HeadListed : Type 0 where
-  pub number : ℕ
+  pub refusal : ℕ
   pub category : ℕ
   pub len : ℕ
 
 abbrev pub headRefused : ℕ → HeadListed
-headRefused n = record { number = n; category = 0; len = 0 }
+headRefused n = record { refusal = n; category = 0; len = 0 }
 
 abbrev pub headGood : ℕ → ℕ → HeadListed
-headGood cat len = record { number = 0; category = cat; len = len }
+headGood cat len = record { refusal = 0; category = cat; len = len }
 
 abbrev pub listedHead : Head → HeadListed
 listedHead (head.Refused n) = headRefused n

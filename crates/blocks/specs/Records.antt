@@ -14,7 +14,7 @@ use Rattle.layouts.specs.declared.form.Form.{Form}
 use Rattle.blocks.specs.Forms.{formNumber}
 use Rattle.blocks.specs.Specification.{putMarks, flags}
 use Rattle.blocks.specs.Marks.{flagsOf}
-use Rattle.layouts.specs.Presence.{rowsOf, meets}
+use Rattle.layouts.specs.Presence.{needsOf, meets}
 
 -- the marks, seven to a number, and for each field its values: none where it is not marked
 pub record Rec : Type 0 where
@@ -46,12 +46,12 @@ unmarked (b ∷ bs) = not b && unmarked bs
 abbrev pub flagsRefusal : Category → List Bool → ℕ
 flagsRefusal c bs = pick (unmarked bs) noneMarked (pick (marksSpare bs (c .fields)) spareMarked 0)
 
--- of marks that are seven to a number, and of marks as a number
-unfoldable pub marksRefusal : Category → List ℕ → ℕ
-marksRefusal c gs = flagsRefusal c (flags gs)
+-- of the marks of a specification, seven to a number, and of marks as a number
+unfoldable pub specificationRefusal : Category → List ℕ → ℕ
+specificationRefusal c gs = flagsRefusal c (flags gs)
 
-abbrev pub numberRefusal : Category → ℕ → ℕ
-numberRefusal c m = flagsRefusal c (flagsOf 32 m)
+abbrev pub marksRefusal : Category → ℕ → ℕ
+marksRefusal c m = flagsRefusal c (flagsOf 32 m)
 
 -- item 000
 abbrev pub isType : Form → Bool
@@ -73,7 +73,7 @@ abbrev pub typeOf : Category → List Trace → ℕ
 typeOf c trs = typeIn 0 (c .fields) trs
 
 unfoldable pub present : Category → List ℕ → List Trace → Bool
-present c gs trs = meets (rowsOf (c .number)) (typeOf c trs) (flags gs)
+present c gs trs = meets (needsOf (c .cat)) (typeOf c trs) (flags gs)
 
 unfoldable pub putItems : List Format → List Trace → List (List ℕ) → List ℕ
 putItems [] trs xs = []

@@ -21,7 +21,7 @@ use Rattle.blocks.specs.declared.statistics.Seen.the-variants as seen
 
 -- a statistics report (01 "Refusal numbers", 13): category 23 type 3, with 010 (field 1), 015 (field 3) and 120 (field 9)
 abbrev pub isReport : ℕ → ℕ → ℕ → Bool
-isReport category type marks = eqb category (cat23 .number) && eqb type 3 && marked marks 1 && marked marks 3 && marked marks 9
+isReport cat type marks = eqb cat (cat23 .cat) && eqb type 3 && marked marks 1 && marked marks 3 && marked marks 9
 
 abbrev pub isStatistics : Record → Bool
 isStatistics t = isReport (t .category) (t .«message_type») (t .marks)
@@ -42,7 +42,7 @@ statisticsOf t = numbersOf (t .source) (t .service) (t .entries)
 -- entry k of 23/120, of those that lie from an offset: TYPE, REF, count
 abbrev pub entryOf : List ℕ → ℕ → ℕ → Entry
 entryOf s at k =
-    let c = counterOf (entryValues s (entryGroupOf (cat23 .number)) at k) in
+    let c = counterOf (entryValues s (entryGroupOf (cat23 .cat)) at k) in
     record { typ = c .typ; reference = c .reference; count = c .count }
 
 -- of a record and the next start: a statistics report and its numbers, or another record
@@ -52,15 +52,15 @@ seenOf t next = pick (isStatistics t) (Seen.Report (statisticsOf t) next) (Seen.
 -- The answer's cases, with document 01's number and values: 13 and no numbers for another record
 
 pub record SeenListed : Type 0 where
-  pub number : ℕ
+  pub refusal : ℕ
   pub report : Statistics
   pub next : ℕ
 
 abbrev pub seenReport : Statistics → ℕ → SeenListed
-seenReport r next = record { number = 0; report = r; next = next }
+seenReport r next = record { refusal = 0; report = r; next = next }
 
 abbrev pub seenOther : ℕ → SeenListed
-seenOther next = record { number = notStatistics; report = statisticsOf absent; next = next }
+seenOther next = record { refusal = notStatistics; report = statisticsOf absent; next = next }
 
 abbrev pub listedSeen : Seen → SeenListed
 listedSeen (seen.Report r next) = seenReport r next

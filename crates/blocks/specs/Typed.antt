@@ -4,7 +4,7 @@ use Prim.Native.Nat.{ℕ, zero, suc, _+_, _-_}
 use lib.Dec.{eqb}
 use lib.ListN.{getD}
 use Rattle.octets.specs.Choice.{pick}
-use Rattle.layouts.specs.Formats.{Answer, refused, got, Format, Trace}
+use Rattle.layouts.specs.Formats.{Parsed, refused, got, Format, Trace}
 use Rattle.layouts.specs.Offsets.{runAt, traceAt}
 use Rattle.layouts.specs.Layouts.{format}
 use Rattle.layouts.specs.Tables.{layout}
@@ -24,8 +24,8 @@ nowhere = record { at = 0; count = 0 }
 -- the record of a category with these marks, of each item's values and of the places of entries and content: `place` is given an item's
 -- form and how many more than these its count octet has
 abbrev pub typed : ℕ → ℕ → (Form → Trace) → (Form → ℕ → Place) → Record
-typed number marks values place = record {
-  category = number;
+typed cat marks values place = record {
+  category = cat;
   marks = marks;
   source = sourceOf (values Form.Source);
   «message_type» = val (values Form.MessageType) 0 0;
@@ -39,7 +39,7 @@ typed number marks values place = record {
   configuration = configurationOf (values Form.Configuration);
   range = val (values Form.Range) 0 0;
   status = val (values Form.Status) 0 0;
-  entries = place (entriesForm number) 0;
+  entries = place (entriesForm cat) 0;
   expansion = place Form.Expansion 1;
   purpose = place Form.Purpose 1;
 }
@@ -65,8 +65,8 @@ abbrev pub placeIn : ℕ → ℕ → Trace → Place
 placeIn at e [] = nowhere
 placeIn at e (v ∷ tr) = record { at = at + 1; count = getD v 0 0 - e }
 
--- where an answer ended; at the start where it was refused
-abbrev pub stopOf : {A : Type 0} → ℕ → Answer ℕ A → ℕ
+-- where what was read ends; at the start where it was refused
+abbrev pub stopOf : {A : Type 0} → ℕ → Parsed ℕ A → ℕ
 stopOf at (refused n) = at
 stopOf at (got a q) = q
 
@@ -86,11 +86,11 @@ module _ (s : List ℕ) (len : ℕ) (c : Category) (r : Rec) (at : ℕ) where
   startFor f = startIn s len (layoutOf c (r .marks)) at (fieldFor (c .fields) f - 1)
 
   unfoldable pub typedRec : Record
-  typedRec = typed (c .number) (marksOf (flags (r .marks))) (valuesFor c r) (λ f e. placeIn (startFor f) e (valuesFor c r f))
+  typedRec = typed (c .cat) (marksOf (flags (r .marks))) (valuesFor c r) (λ f e. placeIn (startFor f) e (valuesFor c r f))
 
 -- Of octets, the items that start at these offsets, by the numbers of their forms; one that is not there starts at the end of the octets, where
 -- everything is zero
 abbrev pub typedBy : List ℕ → ℕ → ℕ → List ℕ → Record
-typedBy s number marks starts =
+typedBy s cat marks starts =
     let start : Form → ℕ = λ f. getD starts (formNumber f) 0 in
-    typed number marks (λ f. traceAt (format (layout f)) s (start f)) (λ f e. placeAt s (start f) e)
+    typed cat marks (λ f. traceAt (format (layout f)) s (start f)) (λ f e. placeAt s (start f) e)

@@ -7,10 +7,10 @@ use lib.ListN.{length, drop}
 use Rattle.octets.specs.Choice.{pick}
 use Rattle.octets.specs.Numbers.{number}
 use Rattle.octets.specs.Refusals.{presenceBroken}
-use Rattle.layouts.specs.Formats.{Answer, refused, got, Trace}
+use Rattle.layouts.specs.Formats.{Parsed, refused, got, Trace}
 use Rattle.layouts.specs.Categories.{Category}
 use Rattle.layouts.specs.declared.form.Form.{Form}
-use Rattle.layouts.specs.Presence.{rowsOf, meets}
+use Rattle.layouts.specs.Presence.{needsOf, meets}
 use Rattle.blocks.specs.Records.{Rec, formats, typeIn}
 use Rattle.blocks.specs.Blocks.{Block, wrong, all, blockOf}
 use Rattle.blocks.specs.Offsets.{itemsAt, recordAt}
@@ -19,7 +19,7 @@ use Rattle.blocks.specs.declared.walk.Reading.{Reading}
 use Rattle.blocks.specs.declared.walk.Reading.the-variants as reading
 
 module _ (s : List ℕ) (len : ℕ) (c : Category) where
-  abbrev pub onward : ℕ → Answer ℕ Rec → (ℕ → Walked) → Walked
+  abbrev pub onward : ℕ → Parsed ℕ Rec → (ℕ → Walked) → Walked
   onward at (refused n) next = Walked.Refused n at
   onward at (got r q) next = next q
 
@@ -31,10 +31,10 @@ module _ (s : List ℕ) (len : ℕ) (c : Category) where
       pick (leb len at) (Walked.To at count) next
 
   -- the items of the fields fs have been read, of a record with these marks and the type so far: presence, and then the run's next records
-  abbrev pub afterItems : List Bool → List Form → ℕ → ℕ → ℕ → ℕ → Answer ℕ (List Trace) → Walked
+  abbrev pub afterItems : List Bool → List Form → ℕ → ℕ → ℕ → ℕ → Parsed ℕ (List Trace) → Walked
   afterItems marks fs typ start budget count (refused n) = Walked.Refused n start
   afterItems marks fs typ start budget count (got trs q) =
-      pick (meets (rowsOf (c .number)) (typeIn typ fs trs) marks) (runOf budget q (count + 1)) (Walked.Refused presenceBroken start)
+      pick (meets (needsOf (c .cat)) (typeIn typ fs trs) marks) (runOf budget q (count + 1)) (Walked.Refused presenceBroken start)
 
   -- the rest of a record from a field on, whose item starts at an offset, and then the run's next records
   unfoldable pub restOf : List Bool → ℕ → ℕ → ℕ → ℕ → ℕ → ℕ → Walked
@@ -54,16 +54,16 @@ readOf s = answerOf (number 2 s 1) (blockOf s)
 -- The answer's cases, with document 01's number and values: LEN 0 and count 0 where it is refused
 
 pub record ReadListed : Type 0 where
-  pub number : ℕ
+  pub refusal : ℕ
   pub offset : ℕ
   pub len : ℕ
   pub count : ℕ
 
 abbrev pub readRefused : ℕ → ℕ → ReadListed
-readRefused n at = record { number = n; offset = at; len = 0; count = 0 }
+readRefused n at = record { refusal = n; offset = at; len = 0; count = 0 }
 
 abbrev pub readAccepted : ℕ → ℕ → ReadListed
-readAccepted len count = record { number = 0; offset = 0; len = len; count = count }
+readAccepted len count = record { refusal = 0; offset = 0; len = len; count = count }
 
 abbrev pub listedReading : Reading → ReadListed
 listedReading (reading.Refused n at) = readRefused n at

@@ -38,15 +38,15 @@ pub enum Found {
 }
 
 // A step inside a block whose header is good. For the next layer, which judges the header once for all steps.
-pub fn take(s: &[u8], len: usize, number: u8, at: usize) -> Step
-    requires { ⌜ (at < len) × (len ≤ length (now s)) × (known number ≡ true) ⌝ }
-    ensures { λ r. ⌜ r ≡ takeOf (now (s .entry)) len number at ⌝ }
+pub fn take(s: &[u8], len: usize, cat: u8, at: usize) -> Step
+    requires { ⌜ (at < len) × (len ≤ length (now s)) × (known cat ≡ true) ⌝ }
+    ensures { λ r. ⌜ r ≡ takeOf (now (s .entry)) len cat at ⌝ }
 {
-    let walked = record_walk(s, len, number, at, 1, 0);
+    let walked = record_walk(s, len, cat, at, 1, 0);
     match walked {
         Walked::Refused(n, start) => Step::Refused(n, start),
         Walked::To(next, _) => {
-            let record = typed_record(s, len, number, at);
+            let record = typed_record(s, len, cat, at);
             let cursor = Cursor { at: next };
             Step::Taken(record, cursor)
         }
@@ -69,28 +69,28 @@ impl Cursor {
         let head = header(s);
         match head {
             Head::Refused(n) => Step::Refused(n, 0),
-            Head::Good(number, len) => {
+            Head::Good(cat, len) => {
                 if at < 3 {
                     return Step::Refused(refusal::NO_SUCH, 0);
                 }
                 if len <= at {
                     return Step::Refused(refusal::NO_SUCH, 0);
                 }
-                take(s, len, number, at)
+                take(s, len, cat, at)
             }
         }
     }
 }
 
 // Entry k of a typed record whose entries lie in the octets.
-fn entry_in(s: &[u8], category: u8, at: usize, count: usize, k: usize) -> Found
-    requires { ⌜ at + count * entryGroupOf category .wide ≤ length (now s) ⌝ }
-    ensures { λ r. ⌜ r ≡ entryIn (now (s .entry)) category at count k ⌝ }
+fn entry_in(s: &[u8], cat: u8, at: usize, count: usize, k: usize) -> Found
+    requires { ⌜ at + count * entryGroupOf cat .wide ≤ length (now s) ⌝ }
+    ensures { λ r. ⌜ r ≡ entryIn (now (s .entry)) cat at count k ⌝ }
 {
     if count <= k {
         return Found::Refused(refusal::NO_SUCH, 0);
     }
-    if category == Cat242::NUMBER {
+    if cat == Cat242::CAT {
         let version = version_at(s, at + k * Cat242::ENTRY);
         return Found::Version(version);
     }

@@ -17,8 +17,8 @@ pub fn header(s: &[u8]) -> Head
     if s.len() < 3 {
         return Head::Refused(refusal::TOO_SHORT);
     }
-    let number = s[0];
-    if !is_known(number) {
+    let cat = s[0];
+    if !is_known(cat) {
         return Head::Refused(refusal::UNKNOWN_CATEGORY);
     }
     let len = octets::read2(s, 1) as usize;
@@ -28,5 +28,5 @@ pub fn header(s: &[u8]) -> Head
     if s.len() < len {
         return Head::Refused(refusal::TOO_SHORT);
     }
-    Head::Good(number, len)
+    Head::Good(cat, len)
 }

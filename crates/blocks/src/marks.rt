@@ -7,7 +7,7 @@ ghost use lib.ListN.{length, getD, drop};
 ghost use Rattle.layouts.specs.Categories.{category, known};
 ghost use Rattle.blocks.specs.Specification.{flags};
 ghost use Rattle.blocks.specs.Marks.{marksOf, flagsOf, groupsOf, nextMarked};
-ghost use Rattle.blocks.specs.Records.{marksSpare, numberRefusal};
+ghost use Rattle.blocks.specs.Records.{marksSpare, marksRefusal};
 use octets::refusal;
 
 // The marks of one specification octet.
@@ -69,28 +69,28 @@ pub(crate) fn next_field(marks: u32, from: usize) -> usize
 }
 
 // A category's last field: a specification octet marks seven. Only for the next layer: the category is one that is read.
-pub fn last_field(number: u8) -> usize
-    requires { ⌜ known number ≡ true ⌝ }
-    ensures { λ r. ⌜ (r ≡ length (category number .fields)) × (r ≤ 14) ⌝ }
+pub fn last_field(cat: u8) -> usize
+    requires { ⌜ known cat ≡ true ⌝ }
+    ensures { λ r. ⌜ (r ≡ length (category cat .fields)) × (r ≤ 14) ⌝ }
 {
-    layouts::category::most_of(number) as usize * 7
+    layouts::category::most_of(cat) as usize * 7
 }
 
 // Whether a field is marked that is spare, or past the category's last.
-fn marks_spare(number: u8, marks: u32) -> bool
-    ensures { λ r. ⌜ r ≡ marksSpare (flagsOf 32 marks) (category number .fields) ⌝ }
+fn marks_spare(cat: u8, marks: u32) -> bool
+    ensures { λ r. ⌜ r ≡ marksSpare (flagsOf 32 marks) (category cat .fields) ⌝ }
 {
-    marks & layouts::category::unused_of(number) != 0
+    marks & layouts::category::unused_of(cat) != 0
 }
 
 // 6 for no mark, 5 for one of a spare field or one past the category's last.
-pub fn marks_refusal(number: u8, marks: u32) -> u8
-    ensures { λ r. ⌜ r ≡ numberRefusal (category number) marks ⌝ }
+pub fn marks_refusal(cat: u8, marks: u32) -> u8
+    ensures { λ r. ⌜ r ≡ marksRefusal (category cat) marks ⌝ }
 {
     if marks == 0 {
         return refusal::NONE_MARKED;
     }
-    if marks_spare(number, marks) {
+    if marks_spare(cat, marks) {
         return refusal::SPARE_MARKED;
     }
     refusal::ACCEPTED

@@ -1,6 +1,6 @@
 // Which items a record has, by its type.
 ghost use mathlib.Core.Path.{_≡_};
-ghost use Rattle.layouts.specs.Presence.{rowsOf, rowsByType, meets};
+ghost use Rattle.layouts.specs.Presence.{needsOf, needsByType, meets};
 ghost use Rattle.blocks.specs.Marks.{flagsOf, hasAll};
 use crate::marks::is_marked;
 use layouts::category::Cat65;
@@ -15,7 +15,7 @@ fn has_all(mandatory: u32, marks: u32) -> bool
 
 // Of category 65: 040 exactly in type 1, 020 exactly in type 2, 050 exactly in the third.
 fn has_of_type(kind: u8, marks: u32) -> bool
-    ensures { λ r. ⌜ r ≡ meets rowsByType kind (flagsOf 32 marks) ⌝ }
+    ensures { λ r. ⌜ r ≡ meets needsByType kind (flagsOf 32 marks) ⌝ }
 {
     let batch = is_marked(marks, 5);
     let sdps = is_marked(marks, 6);
@@ -28,11 +28,11 @@ fn has_of_type(kind: u8, marks: u32) -> bool
 }
 
 // Whether a record of a type has the items that it must have, and none that it must not.
-pub fn is_present(number: u8, kind: u8, marks: u32) -> bool
-    ensures { λ r. ⌜ r ≡ meets (rowsOf number) kind (flagsOf 32 marks) ⌝ }
+pub fn is_present(cat: u8, kind: u8, marks: u32) -> bool
+    ensures { λ r. ⌜ r ≡ meets (needsOf cat) kind (flagsOf 32 marks) ⌝ }
 {
-    let all = has_all(mandatory_of(number), marks);
-    if number == Cat65::NUMBER {
+    let all = has_all(mandatory_of(cat), marks);
+    if cat == Cat65::CAT {
         return all & has_of_type(kind, marks);
     }
     all

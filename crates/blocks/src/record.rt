@@ -117,11 +117,11 @@ fn item_end(s: &[u8], len: usize, field: Field, p: usize) -> usize
 }
 
 // Where the specification at an offset ends; the offset, where it does not end.
-fn items_from(s: &[u8], len: usize, number: u8, at: usize) -> usize
-    requires { ⌜ (at ≤ len) × (len ≤ length (now s)) × (known number ≡ true) ⌝ }
-    ensures { λ r. ⌜ (r ≡ itemsFrom (now (s .entry)) len (category number) at) × (at ≤ r) × (r ≤ len) × (r ≤ at + 4) ⌝ }
+fn items_from(s: &[u8], len: usize, cat: u8, at: usize) -> usize
+    requires { ⌜ (at ≤ len) × (len ≤ length (now s)) × (known cat ≡ true) ⌝ }
+    ensures { λ r. ⌜ (r ≡ itemsFrom (now (s .entry)) len (category cat) at) × (at ≤ r) × (r ≤ len) × (r ≤ at + 4) ⌝ }
 {
-    let end = specification_end(s, len, at, most_of(number));
+    let end = specification_end(s, len, at, most_of(cat));
     match end {
         End::At(p) => p,
         End::Refused(_) => at,
@@ -129,19 +129,19 @@ fn items_from(s: &[u8], len: usize, number: u8, at: usize) -> usize
 }
 
 // The starts of a record at an offset: past the items of its marked fields. Of a record that reading gives, these make the typed record.
-pub(crate) fn starts_at(s: &[u8], len: usize, number: u8, at: usize) -> Starts
-    requires { ⌜ (at ≤ len) × (len ≤ length (now s)) × (known number ≡ true) ⌝ }
-    ensures { λ r. ⌜ ((x : Rec) → (q : ℕ) → recordAt (now (s .entry)) len (category number) at ≡ got x q → (r .end ≡ q) × (typedBy (now (s .entry)) number (r .marks) (r .items) ≡ typedRec (now (s .entry)) len (category number) x (itemsFrom (now (s .entry)) len (category number) at))) × ((n : ℕ) → getD (r .items) n 0 ≤ length (now (s .entry))) ⌝ }
+pub(crate) fn starts_at(s: &[u8], len: usize, cat: u8, at: usize) -> Starts
+    requires { ⌜ (at ≤ len) × (len ≤ length (now s)) × (known cat ≡ true) ⌝ }
+    ensures { λ r. ⌜ ((x : Rec) → (q : ℕ) → recordAt (now (s .entry)) len (category cat) at ≡ got x q → (r .end ≡ q) × (typedBy (now (s .entry)) cat (r .marks) (r .items) ≡ typedRec (now (s .entry)) len (category cat) x (itemsFrom (now (s .entry)) len (category cat) at))) × ((n : ℕ) → getD (r .items) n 0 ≤ length (now (s .entry))) ⌝ }
 {
-    let from = items_from(s, len, number, at);
+    let from = items_from(s, len, cat, at);
     let marks = marks_at(s, at, from - at);
-    let last = last_field(number);
+    let last = last_field(cat);
     let none = s.len();
     let mut items = [none; 17];
     let mut p = from;
     let mut f = next_field(marks, 1);
     while f <= last {
-        let field = field_of(number, f);
+        let field = field_of(cat, f);
         let form = field.0;
         let n = form_number(form);
         items[n] = p;
@@ -156,10 +156,10 @@ pub(crate) fn starts_at(s: &[u8], len: usize, number: u8, at: usize) -> Starts
 }
 
 // The form of a category's entries.
-fn entries_form(number: u8) -> Form
-    ensures { λ r. ⌜ r ≡ entriesForm number ⌝ }
+fn entries_form(cat: u8) -> Form
+    ensures { λ r. ⌜ r ≡ entriesForm cat ⌝ }
 {
-    if number == Cat242::NUMBER {
+    if cat == Cat242::CAT {
         Form::Versions
     } else {
         Form::Statistics
@@ -167,12 +167,12 @@ fn entries_form(number: u8) -> Form
 }
 
 // The typed record of items that start at these offsets.
-fn record_by(s: &[u8], number: u8, marks: u32, items: [usize; 17]) -> Record
+fn record_by(s: &[u8], cat: u8, marks: u32, items: [usize; 17]) -> Record
     requires { ⌜ ((n : ℕ) → getD items n 0 ≤ length (now s)) ⌝ }
-    ensures { λ r. ⌜ r ≡ typedBy (now (s .entry)) number marks items ⌝ }
+    ensures { λ r. ⌜ r ≡ typedBy (now (s .entry)) cat marks items ⌝ }
 {
     Record {
-        category: number,
+        category: cat,
         marks,
         source: source_at(s, start_of(items, Form::Source)),
         message_type: octet_at(s, start_of(items, Form::MessageType)),
@@ -186,18 +186,18 @@ fn record_by(s: &[u8], number: u8, marks: u32, items: [usize; 17]) -> Record
         configuration: configuration_at(s, start_of(items, Form::Configuration)),
         range: octet_at(s, start_of(items, Form::Range)),
         status: status_at(s, start_of(items, Form::Status)),
-        entries: place_at(s, start_of(items, entries_form(number)), 0),
+        entries: place_at(s, start_of(items, entries_form(cat)), 0),
         expansion: place_at(s, start_of(items, Form::Expansion), 1),
         purpose: place_at(s, start_of(items, Form::Purpose), 1),
     }
 }
 
 // The typed record at an offset, of a record that reading gives.
-pub(crate) fn typed_record(s: &[u8], len: usize, number: u8, at: usize) -> Record
-    requires { ⌜ (at ≤ len) × (len ≤ length (now s)) × (known number ≡ true) ⌝ }
-    ensures { λ r. ⌜ ((x : Rec) → (q : ℕ) → recordAt (now (s .entry)) len (category number) at ≡ got x q → r ≡ typedRec (now (s .entry)) len (category number) x (itemsFrom (now (s .entry)) len (category number) at)) ⌝ }
+pub(crate) fn typed_record(s: &[u8], len: usize, cat: u8, at: usize) -> Record
+    requires { ⌜ (at ≤ len) × (len ≤ length (now s)) × (known cat ≡ true) ⌝ }
+    ensures { λ r. ⌜ ((x : Rec) → (q : ℕ) → recordAt (now (s .entry)) len (category cat) at ≡ got x q → r ≡ typedRec (now (s .entry)) len (category cat) x (itemsFrom (now (s .entry)) len (category cat) at)) ⌝ }
 {
-    let starts = starts_at(s, len, number, at);
+    let starts = starts_at(s, len, cat, at);
     let items = starts.items;
-    record_by(s, number, starts.marks, items)
+    record_by(s, cat, starts.marks, items)
 }

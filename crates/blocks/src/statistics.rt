@@ -46,15 +46,15 @@ pub struct Entry {
 }
 
 // The category that statistics reports are of, and their type.
-pub const CATEGORY: u8 = Cat23::NUMBER;
+pub const CATEGORY: u8 = Cat23::CAT;
 
 const STATISTICS: u8 = 3;
 
 // Whether a record is a statistics report: its category, its type, and the marks of 010, 015 and 120.
-fn is_report(category: u8, message_type: u8, marks: u32) -> bool
-    ensures { λ r. ⌜ r ≡ isReport category «message_type» marks ⌝ }
+fn is_report(cat: u8, message_type: u8, marks: u32) -> bool
+    ensures { λ r. ⌜ r ≡ isReport cat «message_type» marks ⌝ }
 {
-    (category == CATEGORY)
+    (cat == CATEGORY)
         & (message_type == STATISTICS)
         & is_marked(marks, 1)
         & is_marked(marks, 3)
@@ -95,7 +95,7 @@ pub fn statistics_of(record: Record) -> Statistics
 
 // Entry k of those that lie from an offset. Only for the next layer: it lies in the slice.
 pub fn counter(s: &[u8], at: usize, k: usize) -> Entry
-    requires { ⌜ at + k * entryGroupOf (cat23 .number) .wide + entryGroupOf (cat23 .number) .wide ≤ length (now s) ⌝ }
+    requires { ⌜ at + k * entryGroupOf (cat23 .cat) .wide + entryGroupOf (cat23 .cat) .wide ≤ length (now s) ⌝ }
     ensures { λ r. ⌜ r ≡ entryOf (now (s .entry)) at k ⌝ }
 {
     let entry = counter_at(s, at + k * Cat23::ENTRY);
@@ -110,12 +110,12 @@ pub fn counter(s: &[u8], at: usize, k: usize) -> Entry
 // layer, which judges a block once; what a step takes there is what is seen.
 pub fn see(s: &[u8], len: usize, at: usize) -> Seen
     requires { ⌜ (at < len) × (len ≤ length (now s)) ⌝ }
-    ensures { λ r. ⌜ ((t : Record) → (c : Cursor) → takeOf (now (s .entry)) len (cat23 .number) at ≡ Step.Taken t c → (r ≡ seenOf t (c .at)) × (listedSeen r ≡ seenListed t (c .at))) ⌝ }
+    ensures { λ r. ⌜ ((t : Record) → (c : Cursor) → takeOf (now (s .entry)) len (cat23 .cat) at ≡ Step.Taken t c → (r ≡ seenOf t (c .at)) × (listedSeen r ≡ seenListed t (c .at))) ⌝ }
 {
-    let starts = starts_at(s, len, Cat23::NUMBER, at);
+    let starts = starts_at(s, len, Cat23::CAT, at);
     let items = starts.items;
     let message_type = octet_at(s, start_of(items, Form::MessageType));
-    if !is_report(Cat23::NUMBER, message_type, starts.marks) {
+    if !is_report(Cat23::CAT, message_type, starts.marks) {
         return Seen::Other(starts.end);
     }
     let source = source_at(s, start_of(items, Form::Source));

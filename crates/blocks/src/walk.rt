@@ -10,7 +10,7 @@ ghost use Rattle.layouts.specs.Tables.{layout};
 ghost use Rattle.layouts.specs.Categories.{category, known};
 ghost use Rattle.items.specs.Typed.{val};
 ghost use Rattle.blocks.specs.Marks.{flagsOf};
-ghost use Rattle.blocks.specs.Records.{numberRefusal, isType};
+ghost use Rattle.blocks.specs.Records.{marksRefusal, isType};
 ghost use Rattle.blocks.specs.Blocks.{recordsAt};
 ghost use Rattle.blocks.specs.Walks.{runOf, restOf, answerOf, readOf, listedReading, readListed};
 use crate::header::Head;
@@ -59,13 +59,13 @@ fn type_behind(s: &[u8], at: usize, form: Form, so_far: u8) -> u8
 pub(crate) fn record_walk(
     s: &[u8],
     len: usize,
-    number: u8,
+    cat: u8,
     at: usize,
     budget: usize,
     count: usize,
 ) -> Walked
-    requires { ⌜ (at ≤ len) × (len ≤ length (now s)) × (known number ≡ true) × (count ≤ at) ⌝ }
-    ensures { λ r. ⌜ r ≡ runOf (now (s .entry)) len (category number) budget at count ⌝ }
+    requires { ⌜ (at ≤ len) × (len ≤ length (now s)) × (known cat ≡ true) × (count ≤ at) ⌝ }
+    ensures { λ r. ⌜ r ≡ runOf (now (s .entry)) len (category cat) budget at count ⌝ }
 {
     if budget == 0 {
         return Walked::To(at, count);
@@ -73,16 +73,16 @@ pub(crate) fn record_walk(
     if len <= at {
         return Walked::To(at, count);
     }
-    let end = specification_end(s, len, at, most_of(number));
+    let end = specification_end(s, len, at, most_of(cat));
     match end {
         End::Refused(n) => Walked::Refused(n, at),
         End::At(p) => {
             let marks = marks_at(s, at, p - at);
-            let n = marks_refusal(number, marks);
+            let n = marks_refusal(cat, marks);
             if n != refusal::ACCEPTED {
                 return Walked::Refused(n, at);
             }
-            item_walk(s, len, number, marks, 1, p, 0, at, budget - 1, count)
+            item_walk(s, len, cat, marks, 1, p, 0, at, budget - 1, count)
         }
     }
 }
@@ -92,7 +92,7 @@ pub(crate) fn record_walk(
 fn item_walk(
     s: &[u8],
     len: usize,
-    number: u8,
+    cat: u8,
     marks: u32,
     field: usize,
     at: usize,
@@ -101,17 +101,17 @@ fn item_walk(
     budget: usize,
     count: usize,
 ) -> Walked
-    requires { ⌜ (at ≤ len) × (len ≤ length (now s)) × (known number ≡ true) × (count < at) × (1 ≤ field) × (field ≤ 33) × (numberRefusal (category number) marks ≡ 0) ⌝ }
-    ensures { λ r. ⌜ r ≡ restOf (now (s .entry)) len (category number) (flagsOf 32 marks) field at «so_far» start budget count ⌝ }
+    requires { ⌜ (at ≤ len) × (len ≤ length (now s)) × (known cat ≡ true) × (count < at) × (1 ≤ field) × (field ≤ 33) × (marksRefusal (category cat) marks ≡ 0) ⌝ }
+    ensures { λ r. ⌜ r ≡ restOf (now (s .entry)) len (category cat) (flagsOf 32 marks) field at «so_far» start budget count ⌝ }
 {
     let f = next_field(marks, field);
     if 32 < f {
-        if is_present(number, so_far, marks) {
-            return record_walk(s, len, number, at, budget, count + 1);
+        if is_present(cat, so_far, marks) {
+            return record_walk(s, len, cat, at, budget, count + 1);
         }
         return Walked::Refused(refusal::PRESENCE_BROKEN, start);
     }
-    let what = field_of(number, f);
+    let what = field_of(cat, f);
     let form = what.0;
     let end = pass(s, len, at, what);
     match end {
@@ -121,7 +121,7 @@ fn item_walk(
             item_walk(
                 s,
                 len,
-                number,
+                cat,
                 marks,
                 f + 1,
                 q,
@@ -141,19 +141,19 @@ pub fn read(s: &[u8]) -> Reading
     let head = header(s);
     match head {
         Head::Refused(n) => Reading::Refused(n, 0),
-        Head::Good(number, len) => read_records(s, len, number),
+        Head::Good(cat, len) => read_records(s, len, cat),
     }
 }
 
 // Run after run, so that the depth of calls does not grow with the number of records.
-fn read_records(s: &[u8], len: usize, number: u8) -> Reading
-    requires { ⌜ (3 ≤ len) × (len ≤ length (now s)) × (known number ≡ true) ⌝ }
-    ensures { λ r. ⌜ r ≡ answerOf len (recordsAt (now (s .entry)) len (category number) len 3) ⌝ }
+fn read_records(s: &[u8], len: usize, cat: u8) -> Reading
+    requires { ⌜ (3 ≤ len) × (len ≤ length (now s)) × (known cat ≡ true) ⌝ }
+    ensures { λ r. ⌜ r ≡ answerOf len (recordsAt (now (s .entry)) len (category cat) len 3) ⌝ }
 {
     let mut at: usize = 3;
     let mut count: usize = 0;
     while at < len {
-        let run = record_walk(s, len, number, at, RUN, count);
+        let run = record_walk(s, len, cat, at, RUN, count);
         match run {
             Walked::To(q, n) => {
                 at = q;

@@ -38,7 +38,7 @@ refused-storing l o out n h = refused-same (storeOf (l .cells)) o out n (h .0) (
 pub refused-posting : (l : Ledger) → Held (l .cells) → (s : List ℕ) (k n : ℕ) (m : Ledger) → Posts l s k (answer n (m .cells)) → (n ≡ 0 → ⊥)
     → m ≡ l
 refused-posting l held s k n m h not-0 =
-    ap (λ (a : Answer). a .ledger) h ∙ ledger-same (posted-same s k (l .cells) held (λ e. not-0 (ap (λ (a : Answer). a .number) h ∙ e)))
+    ap (λ (a : Answer). a .ledger) h ∙ ledger-same (posted-same s k (l .cells) held (λ e. not-0 (ap (λ (a : Answer). a .refusal) h ∙ e)))
 
 puts-same : {xs ys : List ℕ} → puts xs ≡ puts ys → xs ≡ ys
 puts-same h = cc

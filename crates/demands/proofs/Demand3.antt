@@ -47,10 +47,10 @@ ran l end (x ∷ xs) [] k h = absurd h
 ran l end (x ∷ xs) (n ∷ ns) k h =
     let is = h .1 in
     let m-kept : Kept (h .0 .cells)
-    = subst (λ (a : Answer). Kept (a .ledger .cells)) (sym is) (posted-kept (x .octets) (x .number) (l .cells) k (x .are)) in
+    = subst (λ (a : Answer). Kept (a .ledger .cells)) (sym is) (posted-kept (x .octets) (x .k) (l .cells) k (x .are)) in
     let rest = ran (h .0) end xs ns m-kept (h .2) in
-    let rows : rowsOf (h .0 .cells) ≡ _ = ap (λ (a : Answer). rowsOf (a .ledger .cells)) is ∙ posted-rows (x .octets) (x .number) (l .cells) k in
-    let first : n ≡ _ = ap (λ (a : Answer). a .number) (is ∙ posted-is (x .octets) (x .number) (l .cells) k) in
+    let rows : rowsOf (h .0 .cells) ≡ _ = ap (λ (a : Answer). rowsOf (a .ledger .cells)) is ∙ posted-rows (x .octets) (x .k) (l .cells) k in
+    let first : n ≡ _ = ap (λ (a : Answer). a .refusal) (is ∙ posted-is (x .octets) (x .k) (l .cells) k) in
     record {
       told = λ i. first i ∷ (rest .told ∙ ap (λ rs. answers addUp rs (map report xs)) rows) i;
       left = rest .left ∙ ap (λ rs. after addUp rs (map report xs)) rows;
@@ -115,9 +115,9 @@ never-lowered l held s k n m h c =
 pub some-run : (l : Ledger) (xs : List Sent) → (ns : List ℕ) × (end : Ledger) × Run l xs ns end
 some-run l [] = ([], l, refl)
 some-run l (x ∷ xs) =
-    let a = postOf (l .cells) (x .octets) (x .number) in
+    let a = postOf (l .cells) (x .octets) (x .k) in
     let rest = some-run (a .ledger) xs in
-    (a .number ∷ rest .0, rest .1, (a .ledger, refl, rest .2))
+    (a .refusal ∷ rest .0, rest .1, (a .ledger, refl, rest .2))
 
 -- and every run an order, its own.
 pub own-order : (xs : List Sent) → Order xs (upto (length xs))
@@ -135,5 +135,5 @@ pub block-posted : (l : Ledger) → Held (l .cells) → keepsRules (l .cells) �
 block-posted l held keeps s len n o h ns end r =
     let a = ran l end (numbered s o n) ns (kept-rules (l .cells) held keeps) r in
     let same : map report (numbered s o n) ≡ reportsOf s
-    = map-twice report (λ k. record { octets = s; are = o; number = k }) (upto n) ∙ sym (block-numbers s len n o (sym (h .0))) in
+    = map-twice report (λ k. record { octets = s; are = o; k = k }) (upto n) ∙ sym (block-numbers s len n o (sym (h .0))) in
     (a .told ∙ ap (answers addUp (rowsOf (l .cells))) same, a .kept .rest ∙ ap cellsOf (a .left ∙ ap (after addUp (rowsOf (l .cells))) same))

@@ -10,9 +10,9 @@ use Rattle.blocks.specs.Specification.{zeros, putMarks, flags}
 use Rattle.blocks.specs.Marks.{marksOf, flagsOf}
 use Rattle.layouts.specs.Presence.{meets}
 use Rattle.blocks.specs.Headers.{headerOf}
-use Rattle.blocks.specs.Records.{formats, marksSpare, layoutOf, unmarked, marksRefusal, present, putItems, putRec}
+use Rattle.blocks.specs.Records.{formats, marksSpare, layoutOf, unmarked, specificationRefusal, present, putItems, putRec}
 use Rattle.blocks.specs.Blocks.{recordsAt, blockOf, putRecs, putBlock}
-use Rattle.blocks.specs.Offsets.{specsAt, itemsAt, recordAt}
+use Rattle.blocks.specs.Offsets.{specificationAt, itemsAt, recordAt}
 use Rattle.blocks.specs.Walks.{readOf, runOf, restOf, readListed}
 use Rattle.blocks.specs.Typed.{startIn, typedRec}
 use Rattle.blocks.specs.Steps.{takeBy, stepBy, entryBy, stepOf, stepListed, entryListed}
@@ -27,5 +27,5 @@ use Rattle.demands.specs.Examples.{Example, answers, examples}
 
 -- Each example is answered as document 01 says.
 pub worked : map (λ (e : Example). answers (e .octets)) examples ≡ map (λ (e : Example). e .answers) examples
-unfolding values merge fits number octets fitsIn put times chain counted format runAt itemAt zeros putMarks flags marksOf flagsOf meets headerOf formats marksSpare layoutOf unmarked marksRefusal present putItems putRec blockOf putRecs putBlock specsAt itemsAt recordAt recordsAt readOf runOf restOf readListed takeBy stepBy entryBy stepOf stepListed entryListed typedRec rewriteOf addUp rowOf names newKeys addEntry addAll passes postRows upto rowsOf table cellsOf allBelow keepsRules entriesFrom reportIn stepAt reportOf postOf startIn
+unfolding values merge fits number octets fitsIn put times chain counted format runAt itemAt zeros putMarks flags marksOf flagsOf meets headerOf formats marksSpare layoutOf unmarked specificationRefusal present putItems putRec blockOf putRecs putBlock specificationAt itemsAt recordAt recordsAt readOf runOf restOf readListed takeBy stepBy entryBy stepOf stepListed entryListed typedRec rewriteOf addUp rowOf names newKeys addEntry addAll passes postRows upto rowsOf table cellsOf allBelow keepsRules entriesFrom reportIn stepAt reportOf postOf startIn
 worked = refl

@@ -28,8 +28,8 @@ use Rattle.blocks.specs.declared.header.Head.{Head}
 use Rattle.blocks.specs.declared.walk.Reading.{Reading}
 use Rattle.blocks.proofs.HeaderLaws.{header-good}
 use Rattle.blocks.proofs.WalkSteps.{table}
-use Rattle.blocks.proofs.Faults.{header-given-1, header-given-2, header-given-3, header-numbers}
-use Rattle.blocks.proofs.RecordFaults.{given-4, given-5, given-6, given-7, given-8, given-9, given-10, given-11, record-numbers}
+use Rattle.blocks.proofs.Faults.{header-given-1, header-given-2, header-given-3, header-refusals}
+use Rattle.blocks.proofs.RecordFaults.{given-4, given-5, given-6, given-7, given-8, given-9, given-10, given-11, record-refusals}
 use Rattle.blocks.proofs.BoundaryLaws.{read-filled, filled-read, read-stopped}
 use Rattle.blocks.proofs.StoppedLaws.{stopped-read, read-some}
 use Rattle.blocks.proofs.StepFaults.{step-outside, step-faulty, step-cases, entry-past, entry-cases}
@@ -42,7 +42,7 @@ use Rattle.demands.specs.Given.{HeaderFault, short, unknown, low, Record
 module _ (s : List ℕ) where
   to-header : (n : ℕ) → headerOf s ≡ Head.Refused n → HeaderFault s n
   to-header n h =
-      let w = header-numbers s n h in
+      let w = header-refusals s n h in
       test (eqb n 1) (λ e. let is = eqb-true n 1 e in short (header-given-1 s .0 (rw is at h)) is) λ a.
       test (eqb n 2) (λ e. let is = eqb-true n 2 e in unknown (header-given-2 s .0 (rw is at h)) is) λ b.
       let is : n ≡ 3 = omega (arith, eqb-false n 1 a, eqb-false n 2 b) in
@@ -72,7 +72,7 @@ module _ (s : List ℕ) (o : Octets s) (cat len : ℕ) (good : headerOf s ≡ He
   to-record : (n : ℕ) → recordAt s len (category cat) at ≡ refused n → RecordFault s len (category cat) at n
   to-record n h =
       let c = category cat in
-      let w = record-numbers s len c at o some n h in
+      let w = record-refusals s len c at o some n h in
       between (λ m. recordAt s len c at ≡ refused m → RecordFault s len c at m)
       (λ e. long (given-4 s len c at o some .0 e) refl)
       (λ e. let (gs, p, is, f) = given-5 s len c at o some .0 e in spare gs p is f refl)
@@ -126,9 +126,9 @@ module _ (s : List ℕ) (n at : ℕ) (o : Octets s) where
     read-given = (λ e. reading-given .0 (sym (h .0) ∙ e), λ w. h .0 ∙ reading-given .1 w)
 
 -- no other number refuses a block
-pub read-numbers : (s : List ℕ) (n at : ℕ) → Octets s → Stopped s n at → (1 ≤ n) × (n ≤ 11)
-read-numbers s n at o (inl (h, z)) = omega (arith, header-numbers s n h)
-read-numbers s n at o (inr (cat, len, rs, h, j, e, l)) = omega (arith, record-numbers s len (category cat) at o (some s o cat len h at) n e)
+pub read-refusals : (s : List ℕ) (n at : ℕ) → Octets s → Stopped s n at → (1 ≤ n) × (n ≤ 11)
+read-refusals s n at o (inl (h, z)) = omega (arith, header-refusals s n h)
+read-refusals s n at o (inr (cat, len, rs, h, j, e, l)) = omega (arith, record-refusals s len (category cat) at o (some s o cat len h at) n e)
 
 pub full-read : (s : List ℕ) (len n : ℕ) → Full s len n → readOf s ≡ Reading.Accepted len n
 full-read s len n (cat, rs, h, j, count, is) = filled-read s cat len rs h j ∙ ap (Reading.Accepted len) count
@@ -143,8 +143,8 @@ module _ (s : List ℕ) (len n : ℕ) (o : Octets s) (r : Reading) (h : Reads s 
 
 -- A step
 
-refused-number : {n m at p : ℕ} → Step.Refused n at ≡ Step.Refused m p → n ≡ m
-refused-number e = cc
+step-refusal : {n m at p : ℕ} → Step.Refused n at ≡ Step.Refused m p → n ≡ m
+step-refusal e = cc
 
 refused-offset : {n m at p : ℕ} → Step.Refused n at ≡ Step.Refused m p → at ≡ p
 refused-offset e = cc
@@ -153,9 +153,9 @@ module _ (s : List ℕ) (start n at : ℕ) (o : Octets s) where
   step-fault : stepOf s start ≡ Step.Refused n at → StepFault s start n at
   step-fault =
       step-cases s start (λ r. r ≡ Step.Refused n at → StepFault s start n at)
-      (λ m h e. StepFault.header (to-header s n (rw (refused-number e) at h)) (sym (refused-offset e)))
-      (λ cat len h w e. outside (cat, len, h, w) (sym (refused-number e)) (sym (refused-offset e)))
-      (λ cat len h a b m f e. here cat len h a b (to-record s o cat len h start n (rw (refused-number e) at f)) (sym (refused-offset e)))
+      (λ m h e. StepFault.header (to-header s n (rw (step-refusal e) at h)) (sym (refused-offset e)))
+      (λ cat len h w e. outside (cat, len, h, w) (sym (step-refusal e)) (sym (refused-offset e)))
+      (λ cat len h a b m f e. here cat len h a b (to-record s o cat len h start n (rw (step-refusal e) at f)) (sym (refused-offset e)))
       (λ cat len h a b x q f t e. absurd (not-taken (sym e)))
 
   fault-step : StepFault s start n at → stepOf s start ≡ Step.Refused n at
@@ -171,34 +171,34 @@ module _ (s : List ℕ) (start n at : ℕ) (o : Octets s) where
 module _ (s : List ℕ) (start at : ℕ) (o : Octets s) where
   -- no header and no record is refused with 17
   only-outside : StepFault s start 17 at → NoRecord s start × (at ≡ 0)
-  only-outside (StepFault.header w z) = absurd (omega (arith, header-numbers s 17 (of-header s 17 w)))
+  only-outside (StepFault.header w z) = absurd (omega (arith, header-refusals s 17 (of-header s 17 w)))
   only-outside (outside w e z) = (w, z)
   only-outside (here cat len g a b w z) =
-      absurd (omega (arith, record-numbers s len (category cat) start o (some s o cat len g start) 17 (of-record s o cat len g start 17 w)))
+      absurd (omega (arith, record-refusals s len (category cat) start o (some s o cat len g start) 17 (of-record s o cat len g start 17 w)))
 
   -- "17: no record .. of this number": a good header, and a start below 3, or at or past LEN; the offset is 0.
   pub step-given-17 : (r : Step) → Steps s start r → (r ≡ Step.Refused noSuch at) ↔ (NoRecord s start × (at ≡ 0))
   step-given-17 r h = Iff·trans (step-given s start 17 at o r h) (only-outside, λ w. outside (w .0) refl (w .1))
 
   -- no refusal has the number 0
-  step-numbers : (n : ℕ) → StepFault s start n at → 1 ≤ n
-  step-numbers n (StepFault.header w z) = header-numbers s n (of-header s n w) .0
-  step-numbers n (outside w e z) = omega arith
-  step-numbers n (here cat len g a b w z) =
-      omega (arith, record-numbers s len (category cat) start o (some s o cat len g start) n (of-record s o cat len g start n w))
+  step-refusals : (n : ℕ) → StepFault s start n at → 1 ≤ n
+  step-refusals n (StepFault.header w z) = header-refusals s n (of-header s n w) .0
+  step-refusals n (outside w e z) = omega arith
+  step-refusals n (here cat len g a b w z) =
+      omega (arith, record-refusals s len (category cat) start o (some s o cat len g start) n (of-record s o cat len g start n w))
 
 -- "0: accepted": a step that is not refused takes a record.
 pub step-given-0 : (s : List ℕ) (start : ℕ) → Octets s → (r : Step) → Steps s start r
-    → (listedStep r .number ≡ 0) ↔ ((n at : ℕ) → StepFault s start n at → ⊥)
+    → (listedStep r .refusal ≡ 0) ↔ ((n at : ℕ) → StepFault s start n at → ⊥)
 step-given-0 s start o (variants.Refused n at) h =
     let w = step-given s start n at o (Step.Refused n at) h .0 refl in
-    (λ e. absurd (omega (arith, step-numbers s start at o n w)), λ f. absurd (f n at w))
+    (λ e. absurd (omega (arith, step-refusals s start at o n w)), λ f. absurd (f n at w))
 step-given-0 s start o (variants.Taken t c) h = (λ e n at w. not-taken (sym (step-given s start n at o (Step.Taken t c) h .1 w)), λ f. refl)
 
 -- An entry
 
-found-number : {n m at p : ℕ} → Found.Refused n at ≡ Found.Refused m p → n ≡ m
-found-number e = cc
+found-refusal : {n m at p : ℕ} → Found.Refused n at ≡ Found.Refused m p → n ≡ m
+found-refusal e = cc
 
 found-offset : {n m at p : ℕ} → Found.Refused n at ≡ Found.Refused m p → at ≡ p
 found-offset e = cc
@@ -214,7 +214,7 @@ module _ (s : List ℕ) (start k n at : ℕ) (o : Octets s) where
   entry-fault =
       entry-cases s start k (λ r. r ≡ Found.Refused n at → EntryFault s start k n at)
       (λ m p h e. step (step-fault s start n at o (h ∙ cc)))
-      (λ t c h l e. missing (t, c .at, h, l) (sym (found-number e)) (sym (found-offset e)))
+      (λ t c h l e. missing (t, c .at, h, l) (sym (found-refusal e)) (sym (found-offset e)))
       (λ t c h l v e. absurd (not-refused (t .category) v e))
 
   fault-entry : EntryFault s start k n at → entryOf s start k ≡ Found.Refused n at
@@ -244,14 +244,14 @@ module _ (s : List ℕ) (start k at : ℕ) (o : Octets s) where
 
 -- "0: accepted": an entry that is not refused is found.
 pub entry-given-0 : (s : List ℕ) (start k : ℕ) → Octets s → (r : Found) → Entries s start k r
-    → (listedEntry r .number ≡ 0) ↔ ((n at : ℕ) → EntryFault s start k n at → ⊥)
+    → (listedEntry r .refusal ≡ 0) ↔ ((n at : ℕ) → EntryFault s start k n at → ⊥)
 entry-given-0 s start k o (found.Refused n at) h =
     let w = entry-given s start k n at o (Found.Refused n at) h .0 refl in
-    (λ e. absurd (omega (arith, entry-numbers w)), λ f. absurd (f n at w))
+    (λ e. absurd (omega (arith, entry-refusals w)), λ f. absurd (f n at w))
   where
-    entry-numbers : EntryFault s start k n at → 1 ≤ n
-    entry-numbers (step w) = step-numbers s start at o n w
-    entry-numbers (missing w e z) = omega arith
+    entry-refusals : EntryFault s start k n at → 1 ≤ n
+    entry-refusals (step w) = step-refusals s start at o n w
+    entry-refusals (missing w e z) = omega arith
 entry-given-0 s start k o (found.Counter c) h =
     (λ e n at w. let d = entry-given s start k n at o (Found.Counter c) h .1 w in (let z : _≡_ {A = ℕ} 0 1 = cc in omega arith), λ f. refl)
 entry-given-0 s start k o (found.Version c) h =

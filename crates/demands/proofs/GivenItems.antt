@@ -20,7 +20,7 @@ use Rattle.layouts.specs.Layouts.{isUnused, times, counted, format}
 use Rattle.layouts.specs.Offsets.{groupsAt}
 use Rattle.layouts.specs.Tables.{layout}
 use Rattle.layouts.specs.declared.form.Form.{Form}
-use Rattle.items.specs.Typed.{Given, exact, placed, given, givenRefusal, itemFormat, itemRefusal}
+use Rattle.items.specs.Typed.{Supply, exact, placed, given, givenRefusal, itemFormat, itemRefusal}
 use Rattle.items.specs.declared.typed.Item.{Item}
 use Rattle.items.specs.declared.typed.Item.the-variants as item
 use Rattle.items.proofs.Entries.{entriesFit}
@@ -72,7 +72,7 @@ module _ (s : List ℕ) (g : Group) where
 -- what refuses it, test by test
 module _ (s : List ℕ) where
   -- entries and content have the format of what counts them
-  abbrev Formed : Format → Given → Type 0
+  abbrev Formed : Format → Supply → Type 0
   Formed f (exact vs) = Unit {0}
   Formed f (placed e g p) = f ≡ counted e g
 
@@ -96,7 +96,7 @@ module _ (s : List ℕ) where
   formed (item.Expansion p) = refl
   formed (item.Purpose p) = refl
 
-  given-cases : (P : ℕ → Type 0) (f : Format) (x : Given) → Formed f x → (PlaceOutside s x → P passesEnd) → (NoneGiven s x → P noCount)
+  given-cases : (P : ℕ → Type 0) (f : Format) (x : Supply) → Formed f x → (PlaceOutside s x → P passesEnd) → (NoneGiven s x → P noCount)
       → (DoesNotFit s f x → P outOfRange) → P 0 → P (givenRefusal s f x)
   given-cases P f (exact vs) h out none not-fit fine = choose P (fitsIn f vs) (λ t. fine) (λ e. not-fit e)
   given-cases P f (placed e g p) h out none not-fit fine =
@@ -114,15 +114,15 @@ module _ (s : List ℕ) where
       some-out : (few && entriesFit (p .count) g s (p .at)) ≡ false → (255 < p .count + e) ⊎ EntryOut s g p
       some-out c = test few (λ a. inr (one-out s g (p .count) (p .at) (rw a at c))) (λ a. inl (leb-false (p .count + e) 255 a))
 
-  given-outside : (f : Format) (x : Given) → PlaceOutside s x → givenRefusal s f x ≡ passesEnd
+  given-outside : (f : Format) (x : Supply) → PlaceOutside s x → givenRefusal s f x ≡ passesEnd
   given-outside f (exact vs) h = absurd h
   given-outside f (placed e g p) h = rw (lt-ltb (length s) (p .at + p .count * g .wide) h)
 
-  given-none : (f : Format) (x : Given) → NoneGiven s x → givenRefusal s f x ≡ noCount
+  given-none : (f : Format) (x : Supply) → NoneGiven s x → givenRefusal s f x ≡ noCount
   given-none f (exact vs) h = absurd h
   given-none f (placed e g p) h = rw (le-ltb (length s) (p .at + p .count * g .wide) (h .0), eq-eqb (p .count) 0 (h .1))
 
-  given-wide : (f : Format) (x : Given) → Formed f x → DoesNotFit s f x → givenRefusal s f x ≡ outOfRange
+  given-wide : (f : Format) (x : Supply) → Formed f x → DoesNotFit s f x → givenRefusal s f x ≡ outOfRange
   given-wide f (exact vs) h w = rw w
   given-wide f (placed e g p) h w =
       rw (h, placed-refusal s e g p, le-ltb (length s) (p .at + p .count * g .wide) (w .0), ne-eqb (p .count) 0 (λ z. omega arith), not-all (w .2))

@@ -46,28 +46,28 @@ module _ (s : List ℕ) where
 
   module _ (r : Answer) (h : Loads s r) where
     -- "16: ledger or page breaks its rules": with a fresh ledger.
-    pub load-given-16 : (r .number ≡ rulesBroken) ↔ NoPage s
+    pub load-given-16 : (r .refusal ≡ rulesBroken) ↔ NoPage s
     load-given-16 = (
-      λ e. page-or-not (λ p. absurd (let z : _≡_ {A = ℕ} 16 0 = sym e ∙ ap (λ (a : Answer). a .number) (h ∙ load-page p) in omega arith)) (λ w. w),
-      λ w. ap (λ (a : Answer). a .number) (h ∙ load-none w),
+      λ e. page-or-not (λ p. absurd (let z : _≡_ {A = ℕ} 16 0 = sym e ∙ ap (λ (a : Answer). a .refusal) (h ∙ load-page p) in omega arith)) (λ w. w),
+      λ w. ap (λ (a : Answer). a .refusal) (h ∙ load-none w),
     )
 
     pub load-fresh : NoPage s → r ≡ answer rulesBroken (cellsOf [])
     load-fresh w = h ∙ load-none w
 
     -- "0: accepted": a page, and its ledger.
-    pub load-given-0 : (r .number ≡ 0) ↔ Page s
+    pub load-given-0 : (r .refusal ≡ 0) ↔ Page s
     load-given-0 = (
-      λ e. page-or-not (λ p. p) (λ w. absurd (let z : _≡_ {A = ℕ} 0 16 = sym e ∙ ap (λ (a : Answer). a .number) (h ∙ load-none w) in omega arith)),
-      λ p. ap (λ (a : Answer). a .number) (h ∙ load-page p),
+      λ e. page-or-not (λ p. p) (λ w. absurd (let z : _≡_ {A = ℕ} 0 16 = sym e ∙ ap (λ (a : Answer). a .refusal) (h ∙ load-none w) in omega arith)),
+      λ p. ap (λ (a : Answer). a .refusal) (h ∙ load-page p),
     )
 
     pub load-ledger : Page s → r ≡ answer 0 (cellsIn s)
     load-ledger p = h ∙ load-page p
 
     -- no other number answers a load
-    pub load-numbers : (r .number ≡ 0) ⊎ (r .number ≡ rulesBroken)
-    load-numbers = page-or-not (λ p. inl (load-given-0 .1 p)) (λ w. inr (load-given-16 .1 w))
+    pub load-refusals : (r .refusal ≡ 0) ⊎ (r .refusal ≡ rulesBroken)
+    load-refusals = page-or-not (λ p. inl (load-given-0 .1 p)) (λ w. inr (load-given-16 .1 w))
 
 -- Storing
 

@@ -16,36 +16,36 @@ use Rattle.ledger.specs.Posts.{postOf}
 use Rattle.ledger.specs.declared.Answer.{Answer}
 use Rattle.ledger.specs.declared.Ledger.{Ledger}
 use Rattle.demands.specs.Contracts.{Posts}
-use Rattle.demands.specs.Verdicts.{Chosen, Verdict, broken, unread, missing, other, full, past, added, turn}
-use Rattle.demands.proofs.GivenBlocks.{read-numbers}
-use Rattle.demands.proofs.Verdicts.{number-of, verdict}
+use Rattle.demands.specs.Verdicts.{Chosen, Verdict, broken, unread, missing, other, full, past, added, case}
+use Rattle.demands.proofs.GivenBlocks.{read-refusals}
+use Rattle.demands.proofs.Verdicts.{refusal-of, verdict}
 
--- an answer is its number and its ledger
-numbered : (n : ℕ) (r : Answer) → r .number ≡ n → answer n (r .ledger .cells) ≡ r
-numbered n r e = ap (λ m. answer m (r .ledger .cells)) (sym e)
+-- an answer is its refusal and its ledger
+made-answer : (n : ℕ) (r : Answer) → r .refusal ≡ n → answer n (r .ledger .cells) ≡ r
+made-answer n r e = ap (λ m. answer m (r .ledger .cells)) (sym e)
 
 module _ (l : Ledger) (s : List ℕ) (k : ℕ) (o : Octets s) where
   -- Each case implies its answer, with the ledger that the post leaves.
   pub verdict-posts : (n : ℕ) → Verdict l s k n → Posts l s k (answer n (postOf (l .cells) s k .ledger .cells))
-  verdict-posts n v = numbered n (postOf (l .cells) s k) (number-of l s k n o v)
+  verdict-posts n v = made-answer n (postOf (l .cells) s k) (refusal-of l s k n o v)
 
   -- A post is answered n exactly where n is its verdict.
-  pub posts-given : (n : ℕ) (r : Answer) → Posts l s k r → (r .number ≡ n) ↔ Verdict l s k n
+  pub posts-given : (n : ℕ) (r : Answer) → Posts l s k r → (r .refusal ≡ n) ↔ Verdict l s k n
   posts-given n r h = (
-    λ e. verdict l s k n o (r .ledger) (numbered n r e ∙ h),
-    λ v. ap (λ (a : Answer). a .number) h ∙ number-of l s k n o v,
+    λ e. verdict l s k n o (r .ledger) (made-answer n r e ∙ h),
+    λ v. ap (λ (a : Answer). a .refusal) h ∙ refusal-of l s k n o v,
   )
 
-  -- Two verdicts have the same number,
-  pub one-number : (n m : ℕ) → Verdict l s k n → Verdict l s k m → n ≡ m
-  one-number n m v w = sym (number-of l s k n o v) ∙ number-of l s k m o w
+  -- Two verdicts have the same refusal,
+  pub one-refusal : (n m : ℕ) → Verdict l s k n → Verdict l s k m → n ≡ m
+  one-refusal n m v w = sym (refusal-of l s k n o v) ∙ refusal-of l s k m o w
 
-  -- the case that a number tells
-  abbrev turnOf : ℕ → ℕ
-  turnOf n = pick (eqb n 16) 1 (pick (eqb n 17) 3 (pick (eqb n 13) 4 (pick (eqb n 14) 5 (pick (eqb n 15) 6 (pick (eqb n 0) 7 2)))))
+  -- the case that a refusal tells
+  abbrev caseOf : ℕ → ℕ
+  caseOf n = pick (eqb n 16) 1 (pick (eqb n 17) 3 (pick (eqb n 13) 4 (pick (eqb n 14) 5 (pick (eqb n 15) 6 (pick (eqb n 0) 7 2)))))
 
-  read-turn : (n : ℕ) → (1 ≤ n) × (n ≤ 11) → 2 ≡ turnOf n
-  read-turn n h =
+  read-case : (n : ℕ) → (1 ≤ n) × (n ≤ 11) → 2 ≡ caseOf n
+  read-case n h =
       rw (
         ne-eqb n 16 (λ e. omega arith),
         ne-eqb n 17 (λ e. omega arith),
@@ -55,18 +55,18 @@ module _ (l : Ledger) (s : List ℕ) (k : ℕ) (o : Octets s) where
         ne-eqb n 0 (λ e. omega arith),
       )
 
-  turn-of : (n : ℕ) (v : Verdict l s k n) → turn v ≡ turnOf n
-  turn-of n (broken f e) = rw e
-  turn-of n (unread y at e) = read-turn n (read-numbers s n at o (read-stopped s n at o e))
-  turn-of n (missing y len count r h e) = rw e
-  turn-of n (other t c f e) = rw e
-  turn-of n (full t c y h e) = rw e
-  turn-of n (past t c y h p e) = rw e
-  turn-of n (added t c y h p e) = rw e
+  case-of : (n : ℕ) (v : Verdict l s k n) → case v ≡ caseOf n
+  case-of n (broken f e) = rw e
+  case-of n (unread y at e) = read-case n (read-refusals s n at o (read-stopped s n at o e))
+  case-of n (missing y len count r h e) = rw e
+  case-of n (other t c f e) = rw e
+  case-of n (full t c y h e) = rw e
+  case-of n (past t c y h p e) = rw e
+  case-of n (added t c y h p e) = rw e
 
   -- and are the same case: no two of the cases hold together.
-  pub one-case : (n m : ℕ) (v : Verdict l s k n) (w : Verdict l s k m) → turn v ≡ turn w
-  one-case n m v w = turn-of n v ∙ ap turnOf (one-number n m v w) ∙ sym (turn-of m w)
+  pub one-case : (n m : ℕ) (v : Verdict l s k n) (w : Verdict l s k m) → case v ≡ case w
+  one-case n m v w = case-of n v ∙ ap caseOf (one-refusal n m v w) ∙ sym (case-of m w)
 
 -- The record that a number chooses is one.
 pub one-chosen : (l : Ledger) (s : List ℕ) (k : ℕ) (t u : Record) → Chosen l s k t → Chosen l s k u → t ≡ u

@@ -20,7 +20,7 @@ use Rattle.layouts.specs.Categories.{known, category, layoutAt}
 use Rattle.layouts.specs.declared.form.Form.{Form}
 use Rattle.blocks.specs.Blocks.{Block, wrong, all, blockOf}
 use Rattle.blocks.specs.Marks.{flagsOf}
-use Rattle.layouts.specs.Presence.{rowsOf, meets}
+use Rattle.layouts.specs.Presence.{needsOf, meets}
 use Rattle.blocks.specs.Records.{marksSpare, unmarked}
 use Rattle.blocks.specs.Walks.{answerOf, readOf}
 use Rattle.blocks.specs.declared.record.Record.{Record}
@@ -28,7 +28,7 @@ use Rattle.blocks.proofs.BoundaryLaws.{not-accepted, read-filled}
 use Rattle.blocks.proofs.ListedLaws.{read-block}
 use Rattle.blocks.proofs.MarksLaws.{none-flags}
 use Rattle.blocks.proofs.RecordFaults.{marks-zero, zero-marks, spare-at, at-spare}
-use Rattle.writing.specs.Judged.{typeIn, itemsRefusal, markedRefusal, recordRefusal}
+use Rattle.writing.specs.Judged.{markedType, itemsRefusal, markedRefusal, recordRefusal}
 use Rattle.writing.specs.Written.{writeOf, rewriteFrom, rewriteOf}
 use Rattle.writing.proofs.MarksWritten.{present-by-type}
 use Rattle.writing.proofs.ReadBackTheorems.{marks-flags}
@@ -106,7 +106,7 @@ module _ (s : List ℕ) (t : Record) (small : t .marks < 4294967296) where
       fine = rw (some-mark, f)
 
       by-present : itemsRefusal s t marks forms ≡ 0
-          → (b : Bool) → meets (rowsOf (t .category)) (typeIn (t .category) (t .marks) (t .«message_type»)) marks ≡ b
+          → (b : Bool) → meets (needsOf (t .category)) (markedType (t .category) (t .marks) (t .«message_type»)) marks ≡ b
           → recordRefusal s t ≡ pick b 0 presenceBroken
       unfolding recordRefusal
       by-present e b h = rw (k, some-mark, f, e, present-by-type s t k small fine, h)
@@ -148,7 +148,7 @@ module _ (s : List ℕ) (t : Record) (small : t .marks < 4294967296) where
       let g = good-marks k d b in
       test (eqb (itemsRefusal s t marks forms) 0)
       (λ c. let f = eqb-true _ _ c in
-      test (meets (rowsOf (t .category)) (typeIn (t .category) (t .marks) (t .«message_type»)) marks)
+      test (meets (needsOf (t .category)) (markedType (t .category) (t .marks) (t .«message_type»)) marks)
       (λ p. absurd (z (sym e ∙ by-present k d b f true p)))
       (λ p. TypedFault.absent g (items-good g f) p (sym e ∙ by-present k d b f false p)))
       (λ c. TypedFault.item g (marked-first g n z (sym (by-item k d b _ refl (eqb-false _ _ c)) ∙ e))))

@@ -46,7 +46,7 @@ use Rattle.ledger.specs.Reports.{firstKey, entryAt, entriesFrom, entriesOf, rep
 use Rattle.ledger.specs.declared.Answer.{Answer}
 use Rattle.ledger.specs.declared.Ledger.{Ledger}
 use Rattle.ledger.proofs.ReportLaws.{at-more, report-other, report-counts, report-refused, report-stopped, report-taken}
-use Rattle.ledger.proofs.RecordNumbers.{number-past}
+use Rattle.ledger.proofs.RecordNumbers.{record-past}
 use Rattle.demands.specs.Contracts.{Rewrites, Posts}
 use Rattle.demands.specs.Rewritten.{Hands, Twins, InTurn}
 use Rattle.demands.proofs.Demand2.{same-records}
@@ -191,8 +191,8 @@ module _ (s x : List ℕ) (o : Octets s) (o' : Octets x) (e : blockOf s ≡ bloc
 
     report-past : n ≤ k → reportOf s k ≡ reportOf x k
     report-past l =
-        sym (report-stopped s k len n (sym a) noSuch 0 (sym (number-past s len n o a k l)))
-        ∙ report-stopped x k len' n (sym b) noSuch 0 (sym (number-past x len' n o' b k l))
+        sym (report-stopped s k len n (sym a) noSuch 0 (sym (record-past s len n o a k l)))
+        ∙ report-stopped x k len' n (sym b) noSuch 0 (sym (record-past x len' n o' b k l))
 
   -- are the same report by every record number
   report-same : (k : ℕ) → reportOf s k ≡ reportOf x k

@@ -48,7 +48,7 @@ one-posting l s k r q h e = only h e
 
 pub one-lent-posting : (l : Ledger) (s : List ℕ) (k : ℕ) (after after' : Ledger) (r q : ℕ) → LentPosts l s k after r → LentPosts l s k after' q
     → (after ≡ after') × (r ≡ q)
-one-lent-posting l s k after after' r q h e = (ap (λ a. a .ledger) (only h e), ap (λ a. a .number) (only h e))
+one-lent-posting l s k after after' r q h e = (ap (λ a. a .ledger) (only h e), ap (λ a. a .refusal) (only h e))
 
 pub one-loading : (s : List ℕ) (r q : Answer) → Loads s r → Loads s q → r ≡ q
 one-loading s r q h k = only h k
@@ -71,7 +71,7 @@ pub one-wear-entry : (s : List ℕ) (start n : ℕ) (cells after after' : List �
     → WearEntries s start n cells after' q → (r ≡ q) × (after ≡ after')
 one-wear-entry s start n cells after after' r q h k = only-both h k
 
--- where an output is lent: the number, the output, and the cell of its length
+-- where an output is lent: the refusal, the output, and the cell of its length
 only-three : {r q a : ℕ} {o p b m n c : List ℕ} → (r ≡ a) × (o ≡ b) × (m ≡ c) → (q ≡ a) × (p ≡ b) × (n ≡ c) → (r ≡ q) × (o ≡ p) × (m ≡ n)
 only-three h k = (only (h .0) (k .0), only (h .1) (k .1), only (h .2) (k .2))
 

@@ -22,7 +22,7 @@ use Rattle.octets.specs.declared.output.Written.{Written}
 use Rattle.feed.specs.Blocks.{nextOf, listedNext, nextListed}
 use Rattle.feed.specs.declared.block.Next.{Next}
 use Rattle.doors.specs.Cells.{cellCount}
-use Rattle.doors.specs.Answers.{isFew, numberOr, cellsOr, readCells, stepCells, entryCells, putNumber, putOutput, putLength, cellsWritten, pagePosted}
+use Rattle.doors.specs.Answers.{isFew, refusalOr, cellsOr, readCells, stepCells, entryCells, putRefusal, putOutput, putLength, cellsWritten, pagePosted}
 
 -- blocks::walk::read: the octets, the answer
 abbrev pub Reads : List ℕ → Reading → Type 0
@@ -36,7 +36,7 @@ Starts r = r .at ≡ 3
 abbrev pub Steps : List ℕ → ℕ → Step → Type 0
 Steps s start r = (r ≡ stepOf s start) × (listedStep r ≡ stepListed s start)
 
--- blocks::cursor::entry: the octets, the record's start, the number, the answer
+-- blocks::cursor::entry: the octets, the record's start, the entry's number, the answer
 abbrev pub Entries : List ℕ → ℕ → ℕ → Found → Type 0
 Entries s start k r = (r ≡ entryOf s start k) × (listedEntry r ≡ entryListed s start k)
 
@@ -57,7 +57,7 @@ Rewrites s l out r = Puts (rewriteOf s) l out r
 abbrev pub Fresh : Ledger → Type 0
 Fresh r = r .cells ≡ cellsOf []
 
--- ledger::rules::check: the ledger, the number
+-- ledger::rules::check: the ledger, the refusal
 abbrev pub Checks : Ledger → ℕ → Type 0
 Checks l r = r ≡ rulesRefusal (l .cells)
 
@@ -65,7 +65,7 @@ Checks l r = r ≡ rulesRefusal (l .cells)
 abbrev pub Posts : Ledger → List ℕ → ℕ → Answer → Type 0
 Posts l s k r = r ≡ postOf (l .cells) s k
 
--- ledger::lent::post_lent: the ledger behind the reference, the octets, the record number, the ledger behind it afterwards, the number
+-- ledger::lent::post_lent: the ledger behind the reference, the octets, the record number, the ledger behind it afterwards, the refusal
 abbrev pub LentPosts : Ledger → List ℕ → ℕ → Ledger → ℕ → Type 0
 LentPosts l s k after r = answer r (after .cells) ≡ postOf (l .cells) s k
 
@@ -81,36 +81,36 @@ Stores l o out r = Puts (storeOf (l .cells)) o out r
 abbrev pub Begins : List ℕ → Bool → Next → Type 0
 Begins s over r = (r ≡ nextOf s over) × (listedNext r ≡ nextListed s over)
 
--- the doors: whether too few cells are lent, the number and the values otherwise, the cells before and after, the number answered
+-- the doors: whether too few cells are lent, the refusal and the values otherwise, the cells before and after, the refusal answered
 abbrev Lays : Bool → ℕ → List ℕ → List ℕ → List ℕ → ℕ → Type 0
-Lays few n values cells after r = (r ≡ numberOr few n) × (after ≡ cellsOr few cells values)
+Lays few n values cells after r = (r ≡ refusalOr few n) × (after ≡ cellsOr few cells values)
 
--- doors::wear_read: the octets, the cells before and after, the number
+-- doors::wear_read: the octets, the cells before and after, the refusal
 abbrev pub WearReads : List ℕ → List ℕ → List ℕ → ℕ → Type 0
-WearReads s cells after r = Lays (isFew 3 cells) (readListed s .number) (readCells (readListed s)) cells after r
+WearReads s cells after r = Lays (isFew 3 cells) (readListed s .refusal) (readCells (readListed s)) cells after r
 
--- doors::wear_step: the octets, the start, the cells before and after, the number
+-- doors::wear_step: the octets, the start, the cells before and after, the refusal
 abbrev pub WearSteps : List ℕ → ℕ → List ℕ → List ℕ → ℕ → Type 0
 WearSteps s start cells after r =
-    Lays (isFew (2 + cellCount) cells) (stepListed s start .number) (stepCells (stepListed s start)) cells after r
+    Lays (isFew (2 + cellCount) cells) (stepListed s start .refusal) (stepCells (stepListed s start)) cells after r
 
--- doors::wear_entry: the octets, the record's start, the number of the entry, the cells before and after, the number
+-- doors::wear_entry: the octets, the record's start, the number of the entry, the cells before and after, the refusal
 abbrev pub WearEntries : List ℕ → ℕ → ℕ → List ℕ → List ℕ → ℕ → Type 0
-WearEntries s start k cells after r = Lays (isFew 4 cells) (entryListed s start k .number) (entryCells (entryListed s start k)) cells after r
+WearEntries s start k cells after r = Lays (isFew 4 cells) (entryListed s start k .refusal) (entryCells (entryListed s start k)) cells after r
 
--- the doors that put out: whether too few cells are lent, what is put out otherwise, the output and the length's cell before, the two after, the number
+-- the doors that put out: whether too few cells are lent, what is put out otherwise, the output and the length's cell before, the two after, the refusal
 abbrev PutsOut : Bool → Outcome → List ℕ → List ℕ → List ℕ → List ℕ → ℕ → Type 0
 PutsOut few x l size out after r =
-    (r ≡ putNumber few (within (length l) x)) × (out ≡ putOutput few l (within (length l) x)) × (after ≡ putLength few size (within (length l) x))
+    (r ≡ putRefusal few (within (length l) x)) × (out ≡ putOutput few l (within (length l) x)) × (after ≡ putLength few size (within (length l) x))
 
--- doors::wear_write: the record's cells, the source, the output and the length's cell before, the two after, the number
+-- doors::wear_write: the record's cells, the source, the output and the length's cell before, the two after, the refusal
 abbrev pub WearWrites : List ℕ → List ℕ → List ℕ → List ℕ → List ℕ → List ℕ → ℕ → Type 0
 WearWrites cells s l size out after r = PutsOut (isFew cellCount cells || isFew 1 size) (cellsWritten cells s) l size out after r
 
--- doors::wear_rewrite: the octets, the output and the length's cell before, the two after, the number
+-- doors::wear_rewrite: the octets, the output and the length's cell before, the two after, the refusal
 abbrev pub WearRewrites : List ℕ → List ℕ → List ℕ → List ℕ → List ℕ → ℕ → Type 0
 WearRewrites s l size out after r = PutsOut (isFew 1 size) (rewriteOf s) l size out after r
 
--- doors::wear_post: the page, the octets, the record number, the output and the length's cell before, the two after, the number
+-- doors::wear_post: the page, the octets, the record number, the output and the length's cell before, the two after, the refusal
 abbrev pub WearPosts : List ℕ → List ℕ → ℕ → List ℕ → List ℕ → List ℕ → List ℕ → ℕ → Type 0
 WearPosts page s k l size out after r = PutsOut (isFew 1 size) (pagePosted page s k) l size out after r

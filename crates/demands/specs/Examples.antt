@@ -39,7 +39,7 @@ refused n = record {
   posting = answer n (cellsOf []);
 }
 
--- a block of one record, with the number and the rows that posting it gives
+-- a block of one record, with the refusal and the rows that posting it gives
 abbrev pub posted : ℕ → List Row → ℕ → Record → EntryListed → List ℕ → Answers
 posted n rows len t e xs = record {
   reading = readAccepted len 1;

@@ -11,17 +11,17 @@ use Rattle.layouts.specs.Groups.{fits, Group}
 use Rattle.layouts.specs.Formats.{Format, fitsIn}
 use Rattle.layouts.specs.Layouts.{isUnused}
 use Rattle.layouts.specs.Categories.{known, category, formAt, layoutAt}
-use Rattle.items.specs.Typed.{Given, exact, placed, given, itemFormat}
+use Rattle.items.specs.Typed.{Supply, exact, placed, given, itemFormat}
 use Rattle.items.specs.declared.typed.Item.{Item}
 use Rattle.items.specs.declared.typed.Place.{Place}
 use Rattle.blocks.specs.Blocks.{Block, wrong, all, blockOf, putBlock}
 use Rattle.blocks.specs.Boundaries.{Full}
 use Rattle.blocks.specs.Marks.{flagsOf}
 use Rattle.blocks.specs.Meaning.{itemIn, recOf}
-use Rattle.layouts.specs.Presence.{rowsOf, meets}
+use Rattle.layouts.specs.Presence.{needsOf, meets}
 use Rattle.blocks.specs.Steps.{entryValues}
 use Rattle.blocks.specs.declared.record.Record.{Record}
-use Rattle.writing.specs.Judged.{typeIn}
+use Rattle.writing.specs.Judged.{markedType}
 use Rattle.demands.specs.Given.{BlockFault, OutputFault}
 
 -- An item is given by its values; or it is entries or content, so many groups at a place of the source, which an octet counts that has e more
@@ -31,12 +31,12 @@ abbrev pub Inside : List ℕ → Group → Place → Type 0
 Inside s g p = p .at + p .count * g .wide ≤ length s
 
 -- "7: .. when writing, a place outside the lent source": offset and octets pass its end
-abbrev pub PlaceOutside : List ℕ → Given → Type 0
+abbrev pub PlaceOutside : List ℕ → Supply → Type 0
 PlaceOutside s (exact vs) = ⊥
 PlaceOutside s (placed e g p) = length s < p .at + p .count * g .wide
 
 -- "8 for none"
-abbrev pub NoneGiven : List ℕ → Given → Type 0
+abbrev pub NoneGiven : List ℕ → Supply → Type 0
 NoneGiven s (exact vs) = ⊥
 NoneGiven s (placed e g p) = Inside s g p × (p .count ≡ 0)
 
@@ -45,7 +45,7 @@ abbrev pub EntryOut : List ℕ → Group → Place → Type 0
 EntryOut s g p = (j : ℕ) × (j < p .count) × (fits (g .parts) (entryValues s g (p .at) j) ≡ false)
 
 -- "11: a value out of range, or too wide for its bits when writing"; "11 for over 255 entries or 254 octets, or an entry's value"
-abbrev pub DoesNotFit : List ℕ → Format → Given → Type 0
+abbrev pub DoesNotFit : List ℕ → Format → Supply → Type 0
 DoesNotFit s f (exact vs) = fitsIn f vs ≡ false
 DoesNotFit s f (placed e g p) = Inside s g p × (0 < p .count) × ((255 < p .count + e) ⊎ EntryOut s g p)
 
@@ -85,9 +85,9 @@ module _ (s : List ℕ) (t : Record) where
   abbrev pub GoodItems : Type 0
   GoodItems = (f : ℕ) → Marked f → (m : ℕ) → ItemFault s (itemOn f) m → ⊥
 
-  -- "10: presence broken": the rows of 01 "Presence" are not all met by the record's type and marks
+  -- "10: presence broken": the needs of 01 "Presence" are not all met by the record's type and marks
   abbrev pub PresenceBroken : Type 0
-  PresenceBroken = meets (rowsOf (t .category)) (typeIn (t .category) (t .marks) (t .«message_type»)) (flagsOf 32 (t .marks)) ≡ false
+  PresenceBroken = meets (needsOf (t .category)) (markedType (t .category) (t .marks) (t .«message_type»)) (flagsOf 32 (t .marks)) ≡ false
 
   -- the record as a block
   abbrev pub itsBlock : List ℕ

@@ -13,30 +13,30 @@ use Rattle.ledger.specs.Reports.{reportOf}
 use Rattle.ledger.specs.declared.Ledger.{Ledger}
 use Rattle.demands.specs.Contracts.{Posts}
 
--- what comes in: octets, and the number of a record in them
+-- what comes in: octets, and which record of them, from 0
 pub record Sent : Type 0 where
   pub octets : List ℕ
   pub are : Octets octets
-  pub number : ℕ
+  pub k : ℕ
 
 abbrev pub nothing : Sent
-nothing = record { octets = []; are = λ i. omega arith; number = 0 }
+nothing = record { octets = []; are = λ i. omega arith; k = 0 }
 
 -- the first n records of octets, by number
 abbrev pub numbered : (s : List ℕ) → Octets s → ℕ → List Sent
-numbered s o n = map (λ k. record { octets = s; are = o; number = k }) (upto n)
+numbered s o n = map (λ k. record { octets = s; are = o; k = k }) (upto n)
 
 -- A run: each is posted to the ledger that the one before left. The answers in turn, and the ledger at the end.
 abbrev pub Run : Ledger → List Sent → List ℕ → Ledger → Type 0
 Run l [] [] end = end ≡ l
 Run l [] (n ∷ ns) end = ⊥
 Run l (x ∷ xs) [] end = ⊥
-Run l (x ∷ xs) (n ∷ ns) end = (m : Ledger) × Posts l (x .octets) (x .number) (answer n (m .cells)) × Run m xs ns end
+Run l (x ∷ xs) (n ∷ ns) end = (m : Ledger) × Posts l (x .octets) (x .k) (answer n (m .cells)) × Run m xs ns end
 
 -- The counters that it names are those of the entries of its report: of one that is refused with 1 to 11, 17 or 13 none; a report that
 -- is refused with 14 or 15 has them all the same.
 abbrev pub report : Sent → Report
-report x = reportOf (x .octets) (x .number)
+report x = reportOf (x .octets) (x .k)
 
 abbrev pub Names : Sent → ℕ → Type 0
 Names x k = names k (entries (report x)) ≡ true

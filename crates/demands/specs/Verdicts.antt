@@ -37,12 +37,12 @@ pub data Verdict (l : Ledger) (s : List ℕ) (k n : ℕ) : Type 0 where
   added : (t : Record) → Chosen l s k t → isStatistics t ≡ true → rowsFor (rowsOf (l .cells)) (entriesOf s t) ≤ 256
       → passes addUp (rowsOf (l .cells)) (entriesOf s t) ≡ false → n ≡ 0 → Verdict l s k n
 
--- the cases in turn
-abbrev pub turn : {l : Ledger} {s : List ℕ} {k n : ℕ} → Verdict l s k n → ℕ
-turn (broken f e) = 1
-turn (unread y at e) = 2
-turn (missing y len count r m e) = 3
-turn (other t c f e) = 4
-turn (full t c y m e) = 5
-turn (past t c y m p e) = 6
-turn (added t c y m p e) = 7
+-- the cases, counted in this order
+abbrev pub case : {l : Ledger} {s : List ℕ} {k n : ℕ} → Verdict l s k n → ℕ
+case (broken f e) = 1
+case (unread y at e) = 2
+case (missing y len count r m e) = 3
+case (other t c f e) = 4
+case (full t c y m e) = 5
+case (past t c y m p e) = 6
+case (added t c y m p e) = 7

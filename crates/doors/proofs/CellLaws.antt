@@ -15,8 +15,8 @@ use Rattle.layouts.specs.Categories.{known, category}
 use Rattle.layouts.specs.declared.form.Form.{Form}
 use Rattle.layouts.specs.declared.form.Form.the-variants.{Spare, Source, MessageType, Service, Identification, Time, Batch, Sdps, Report, Station, Configuration, Range, Status, Statistics, Versions, Expansion, Purpose}
 use Rattle.blocks.specs.Marks.{flagsOf}
-use Rattle.blocks.specs.Records.{numberRefusal}
-use Rattle.blocks.proofs.MarksLaws.{number-refusal}
+use Rattle.blocks.specs.Records.{marksRefusal}
+use Rattle.blocks.proofs.MarksLaws.{marks-refused}
 use Rattle.blocks.specs.declared.record.Record.{Record}
 use Rattle.writing.specs.Judged.{recordRefusal}
 use Rattle.writing.specs.Written.{writeOf}
@@ -124,13 +124,13 @@ module _ (t : Record) (held : Held t) where
   all-held (true ∷ bs) (f ∷ fs) = rw (item-held f) (all-held bs fs)
   all-held (false ∷ bs) (f ∷ fs) = all-held bs fs
 
-  by-record : cellsRefusal cs ≡ pick (known (t .category)) (numberRefusal (category (t .category)) (t .marks)) unknownCategory
+  by-record : cellsRefusal cs ≡ pick (known (t .category)) (marksRefusal (category (t .category)) (t .marks)) unknownCategory
   unfolding cellsRefusal
   by-record =
       let small = held 1 (omega arith) in
-      rw (number-refusal _ (t .marks) small, lt-leb (2 ^ 32) (t .marks) small, all-held (flagsOf 32 (t .marks)) (category (t .category) .fields))
+      rw (marks-refused _ (t .marks) small, lt-leb (2 ^ 32) (t .marks) small, all-held (flagsOf 32 (t .marks)) (category (t .category) .fields))
 
   -- Writing a record's cells is writing the record.
   pub write-taken : (s : List ℕ) → cellsWritten cs s ≡ writeOf s t
   unfolding cellsWritten writeOf recordRefusal
-  write-taken s = rw (cells-record, by-record) (first-tests (known (t .category)) (numberRefusal (category (t .category)) (t .marks)) _ _)
+  write-taken s = rw (cells-record, by-record) (first-tests (known (t .category)) (marksRefusal (category (t .category)) (t .marks)) _ _)

@@ -21,8 +21,8 @@ use Rattle.doors.specs.Cells.{recordCells, recordOf, cellsRefusal}
 abbrev pub isFew : ℕ → List ℕ → Bool
 isFew k cells = ltb (length cells) k
 
-abbrev pub numberOr : Bool → ℕ → ℕ
-numberOr few n = pick few outputTooShort n
+abbrev pub refusalOr : Bool → ℕ → ℕ
+refusalOr few n = pick few outputTooShort n
 
 -- the first of the cells that were lent take the values
 abbrev pub cellsOr : Bool → List ℕ → List ℕ → List ℕ
@@ -43,10 +43,10 @@ entryCells r =
     let v = r .version in
     r .offset ∷ (c .typ + v .category) ∷ (c .reference + v .main) ∷ (c .count + v .sub) ∷ []
 
--- Where an output is lent: the number, the output, and the cell of its length
+-- Where an output is lent: the refusal, the output, and the cell of its length
 
-abbrev pub putNumber : Bool → Outcome → ℕ
-putNumber few x = numberOr few (outcomeListed x .number)
+abbrev pub putRefusal : Bool → Outcome → ℕ
+putRefusal few x = refusalOr few (outcomeListed x .refusal)
 
 abbrev pub putOutput : Bool → List ℕ → Outcome → List ℕ
 putOutput few out x = pick few out (outputOf out x)
@@ -62,10 +62,10 @@ cellsWritten cs s = pick (eqb (cellsRefusal cs) 0) (writeOf s (recordOf cs)) (no
 
 -- load, post, store
 abbrev pub postStored : Answer → Outcome
-postStored a = pick (eqb (a .number) 0) (storeOf (a .ledger .cells)) (no (a .number))
+postStored a = pick (eqb (a .refusal) 0) (storeOf (a .ledger .cells)) (no (a .refusal))
 
 abbrev pub loadPosted : List ℕ → ℕ → Answer → Outcome
-loadPosted s k a = pick (eqb (a .number) 0) (postStored (postOf (a .ledger .cells) s k)) (no (a .number))
+loadPosted s k a = pick (eqb (a .refusal) 0) (postStored (postOf (a .ledger .cells) s k)) (no (a .refusal))
 
 unfoldable pub pagePosted : List ℕ → List ℕ → ℕ → Outcome
 pagePosted page s k = loadPosted s k (loadOf page)

@@ -254,9 +254,9 @@ fn item_fits(cells: &[u64], form: Form) -> bool
 }
 
 // Whether the cells of every marked item fit their places.
-fn all_fit(cells: &[u64], number: u8, marks: u32) -> bool
+fn all_fit(cells: &[u64], cat: u8, marks: u32) -> bool
     requires { ⌜ cellCount ≤ length (now cells) ⌝ }
-    ensures { λ r. ⌜ r ≡ allFit (now (cells .entry)) (flagsOf 32 marks) (category number .fields) ⌝ }
+    ensures { λ r. ⌜ r ≡ allFit (now (cells .entry)) (flagsOf 32 marks) (category cat .fields) ⌝ }
 {
     let mut left = marks;
     let mut f: usize = 0;
@@ -266,7 +266,7 @@ fn all_fit(cells: &[u64], number: u8, marks: u32) -> bool
         }
         f += 1;
         if left % 2 == 1 {
-            let field = field_of(number, f);
+            let field = field_of(cat, f);
             let form = field.0;
             if !item_fits(cells, form) {
                 return false;
@@ -286,19 +286,19 @@ pub fn cells_refusal(cells: &[u64]) -> u8
     if 0xFF < cells[0] {
         return refusal::UNKNOWN_CATEGORY;
     }
-    let number = octet(cells, 0);
-    if !is_known(number) {
+    let cat = octet(cells, 0);
+    if !is_known(cat) {
         return refusal::UNKNOWN_CATEGORY;
     }
     if 0xFFFF_FFFF < cells[1] {
         return refusal::SPARE_MARKED;
     }
     let marks = long(cells, 1);
-    let n = marks_refusal(number, marks);
+    let n = marks_refusal(cat, marks);
     if n != refusal::ACCEPTED {
         return n;
     }
-    if !all_fit(cells, number, marks) {
+    if !all_fit(cells, cat, marks) {
         return refusal::OUT_OF_RANGE;
     }
     refusal::ACCEPTED

@@ -11,7 +11,7 @@ ghost use Rattle.blocks.specs.Walks.{readListed};
 ghost use Rattle.blocks.specs.Steps.{stepListed, entryListed};
 ghost use Rattle.writing.specs.Written.{rewriteOf};
 ghost use Rattle.doors.specs.Cells.{cellCount};
-ghost use Rattle.doors.specs.Answers.{isFew, numberOr, cellsOr, readCells, stepCells, entryCells, putNumber, putOutput, putLength, cellsWritten, pagePosted};
+ghost use Rattle.doors.specs.Answers.{isFew, refusalOr, cellsOr, readCells, stepCells, entryCells, putRefusal, putOutput, putLength, cellsWritten, pagePosted};
 
 pub mod cells;
 
@@ -51,7 +51,7 @@ fn lay(cells: &mut [u64], at: usize, values: &[u64])
 // Offset, LEN, count of records.
 #[no_mangle]
 pub extern "C" fn wear_read(s: &[u8], cells: &mut [u64]) -> u32
-    ensures { λ r. ⌜ (r ≡ numberOr (isFew 3 (now (cells .entry))) (readListed (now (s .entry)) .number))
+    ensures { λ r. ⌜ (r ≡ refusalOr (isFew 3 (now (cells .entry))) (readListed (now (s .entry)) .refusal))
         × (now (cells .exit) ≡ cellsOr (isFew 3 (now (cells .entry))) (now (cells .entry)) (readCells (readListed (now (s .entry))))) ⌝ }
 {
     if cells.len() < 3 {
@@ -75,7 +75,7 @@ pub extern "C" fn wear_read(s: &[u8], cells: &mut [u64]) -> u32
 // Offset, next start, and the record's cells.
 #[no_mangle]
 pub extern "C" fn wear_step(s: &[u8], start: usize, cells: &mut [u64]) -> u32
-    ensures { λ r. ⌜ (r ≡ numberOr (isFew (2 + cellCount) (now (cells .entry))) (stepListed (now (s .entry)) start .number))
+    ensures { λ r. ⌜ (r ≡ refusalOr (isFew (2 + cellCount) (now (cells .entry))) (stepListed (now (s .entry)) start .refusal))
         × (now (cells .exit) ≡ cellsOr (isFew (2 + cellCount) (now (cells .entry))) (now (cells .entry)) (stepCells (stepListed (now (s .entry)) start))) ⌝ }
 {
     if cells.len() < STEP_CELLS {
@@ -101,14 +101,14 @@ pub extern "C" fn wear_step(s: &[u8], start: usize, cells: &mut [u64]) -> u32
 
 // Offset, and the entry's three values.
 #[no_mangle]
-pub extern "C" fn wear_entry(s: &[u8], start: usize, number: usize, cells: &mut [u64]) -> u32
-    ensures { λ r. ⌜ (r ≡ numberOr (isFew 4 (now (cells .entry))) (entryListed (now (s .entry)) start number .number))
-        × (now (cells .exit) ≡ cellsOr (isFew 4 (now (cells .entry))) (now (cells .entry)) (entryCells (entryListed (now (s .entry)) start number))) ⌝ }
+pub extern "C" fn wear_entry(s: &[u8], start: usize, k: usize, cells: &mut [u64]) -> u32
+    ensures { λ r. ⌜ (r ≡ refusalOr (isFew 4 (now (cells .entry))) (entryListed (now (s .entry)) start k .refusal))
+        × (now (cells .exit) ≡ cellsOr (isFew 4 (now (cells .entry))) (now (cells .entry)) (entryCells (entryListed (now (s .entry)) start k))) ⌝ }
 {
     if cells.len() < 4 {
         return refusal::OUTPUT_TOO_SHORT as u32;
     }
-    let found = entry(s, start, number);
+    let found = entry(s, start, k);
     match found {
         Found::Counter(c) => {
             let values = [0, c.typ as u64, c.reference as u64, c.count as u64];
@@ -128,10 +128,10 @@ pub extern "C" fn wear_entry(s: &[u8], start: usize, number: usize, cells: &mut 
     }
 }
 
-// The number of what was put out, and its length into the first cell. Only where there is one.
+// The refusal of what was put out, and its length into the first cell. Only where there is one.
 fn put_out(written: Written, size: &mut [u64]) -> u32
     requires { ⌜ 1 ≤ length (now size) ⌝ }
-    ensures { λ r. ⌜ (r ≡ listedWritten written .number) × (now (size .exit) ≡ laid (now (size .entry)) 0 (listedWritten written .length ∷ [])) ⌝ }
+    ensures { λ r. ⌜ (r ≡ listedWritten written .refusal) × (now (size .exit) ≡ laid (now (size .entry)) 0 (listedWritten written .length ∷ [])) ⌝ }
 {
     match written {
         Written::Octets(k) => {
@@ -148,7 +148,7 @@ fn put_out(written: Written, size: &mut [u64]) -> u32
 // A record's cells as a block; entries and content from the source.
 #[no_mangle]
 pub extern "C" fn wear_write(cells: &[u64], source: &[u8], out: &mut [u8], size: &mut [u64]) -> u32
-    ensures { λ r. ⌜ (r ≡ putNumber (isFew cellCount (now (cells .entry)) || isFew 1 (now (size .entry))) (within (length (now (out .entry))) (cellsWritten (now (cells .entry)) (now (source .entry)))))
+    ensures { λ r. ⌜ (r ≡ putRefusal (isFew cellCount (now (cells .entry)) || isFew 1 (now (size .entry))) (within (length (now (out .entry))) (cellsWritten (now (cells .entry)) (now (source .entry)))))
         × (now (out .exit) ≡ putOutput (isFew cellCount (now (cells .entry)) || isFew 1 (now (size .entry))) (now (out .entry)) (within (length (now (out .entry))) (cellsWritten (now (cells .entry)) (now (source .entry)))))
         × (now (size .exit) ≡ putLength (isFew cellCount (now (cells .entry)) || isFew 1 (now (size .entry))) (now (size .entry)) (within (length (now (out .entry))) (cellsWritten (now (cells .entry)) (now (source .entry))))) ⌝ }
 {
@@ -168,7 +168,7 @@ pub extern "C" fn wear_write(cells: &[u64], source: &[u8], out: &mut [u8], size:
 // A block in normal form.
 #[no_mangle]
 pub extern "C" fn wear_rewrite(s: &[u8], out: &mut [u8], size: &mut [u64]) -> u32
-    ensures { λ r. ⌜ (r ≡ putNumber (isFew 1 (now (size .entry))) (within (length (now (out .entry))) (rewriteOf (now (s .entry)))))
+    ensures { λ r. ⌜ (r ≡ putRefusal (isFew 1 (now (size .entry))) (within (length (now (out .entry))) (rewriteOf (now (s .entry)))))
         × (now (out .exit) ≡ putOutput (isFew 1 (now (size .entry))) (now (out .entry)) (within (length (now (out .entry))) (rewriteOf (now (s .entry)))))
         × (now (size .exit) ≡ putLength (isFew 1 (now (size .entry))) (now (size .entry)) (within (length (now (out .entry))) (rewriteOf (now (s .entry))))) ⌝ }
 {
@@ -179,18 +179,18 @@ pub extern "C" fn wear_rewrite(s: &[u8], out: &mut [u8], size: &mut [u64]) -> u3
 }
 
 // A record of a block posted to the ledger of a page, and the ledger stored: load's refusal, post's, store's.
-fn posted_page(page: &[u8], s: &[u8], number: usize, out: &mut [u8]) -> Written
-    ensures { λ r. ⌜ (now (out .exit) ≡ outputOf (now (out .entry)) (within (length (now (out .entry))) (pagePosted (now (page .entry)) (now (s .entry)) number)))
-        × (listedWritten r ≡ outcomeListed (within (length (now (out .entry))) (pagePosted (now (page .entry)) (now (s .entry)) number))) ⌝ }
+fn posted_page(page: &[u8], s: &[u8], k: usize, out: &mut [u8]) -> Written
+    ensures { λ r. ⌜ (now (out .exit) ≡ outputOf (now (out .entry)) (within (length (now (out .entry))) (pagePosted (now (page .entry)) (now (s .entry)) k)))
+        × (listedWritten r ≡ outcomeListed (within (length (now (out .entry))) (pagePosted (now (page .entry)) (now (s .entry)) k))) ⌝ }
 {
     let loaded = load(page);
-    if loaded.number != refusal::ACCEPTED {
-        return Written::Refused(loaded.number);
+    if loaded.refusal != refusal::ACCEPTED {
+        return Written::Refused(loaded.refusal);
     }
     let before = loaded.ledger;
-    let posted = post(before, s, number);
-    if posted.number != refusal::ACCEPTED {
-        return Written::Refused(posted.number);
+    let posted = post(before, s, k);
+    if posted.refusal != refusal::ACCEPTED {
+        return Written::Refused(posted.refusal);
     }
     let after = posted.ledger;
     store(after, out)
@@ -201,16 +201,16 @@ fn posted_page(page: &[u8], s: &[u8], number: usize, out: &mut [u8]) -> Written
 pub extern "C" fn wear_post(
     page: &[u8],
     s: &[u8],
-    number: usize,
+    k: usize,
     out: &mut [u8],
     size: &mut [u64],
 ) -> u32
-    ensures { λ r. ⌜ (r ≡ putNumber (isFew 1 (now (size .entry))) (within (length (now (out .entry))) (pagePosted (now (page .entry)) (now (s .entry)) number)))
-        × (now (out .exit) ≡ putOutput (isFew 1 (now (size .entry))) (now (out .entry)) (within (length (now (out .entry))) (pagePosted (now (page .entry)) (now (s .entry)) number)))
-        × (now (size .exit) ≡ putLength (isFew 1 (now (size .entry))) (now (size .entry)) (within (length (now (out .entry))) (pagePosted (now (page .entry)) (now (s .entry)) number))) ⌝ }
+    ensures { λ r. ⌜ (r ≡ putRefusal (isFew 1 (now (size .entry))) (within (length (now (out .entry))) (pagePosted (now (page .entry)) (now (s .entry)) k)))
+        × (now (out .exit) ≡ putOutput (isFew 1 (now (size .entry))) (now (out .entry)) (within (length (now (out .entry))) (pagePosted (now (page .entry)) (now (s .entry)) k)))
+        × (now (size .exit) ≡ putLength (isFew 1 (now (size .entry))) (now (size .entry)) (within (length (now (out .entry))) (pagePosted (now (page .entry)) (now (s .entry)) k))) ⌝ }
 {
     if size.len() < 1 {
         return refusal::OUTPUT_TOO_SHORT as u32;
     }
-    put_out(posted_page(page, s, number, out), size)
+    put_out(posted_page(page, s, k, out), size)
 }

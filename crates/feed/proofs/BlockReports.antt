@@ -13,7 +13,7 @@ use Rattle.blocks.specs.declared.cursor.Cursor.{Cursor}
 use Rattle.blocks.specs.declared.cursor.Step.{Step}
 use Rattle.blocks.specs.declared.record.Record.{Record}
 use Rattle.blocks.specs.declared.walk.Reading.{Reading}
-use Rattle.blocks.proofs.BlockLaws.{category-number}
+use Rattle.blocks.proofs.BlockLaws.{category-cat}
 use Rattle.blocks.proofs.BoundaryLaws.{visited}
 use Rattle.blocks.proofs.HeaderLaws.{Headed, header-good}
 use Rattle.blocks.proofs.StepLaws.{ofStep, by-step, step-took}
@@ -32,7 +32,7 @@ pub taken-category : (s : List ℕ) (at : ℕ) (t : Record) (c : Cursor) → ste
 unfolding typedRec
 taken-category s at t c e =
     let w = step-took s at t c e in
-    ap (λ (x : Record). x .category) (w .taking .same) ∙ category-number (w .cat) ∙ header-good s (w .cat) (w .len) (w .head) .is-cat
+    ap (λ (x : Record). x .category) (w .taking .same) ∙ category-cat (w .cat) ∙ header-good s (w .cat) (w .len) (w .head) .is-cat
 
 module _ (s : List ℕ) (len n : ℕ) (o : Octets s) (h : readOf s ≡ Reading.Accepted len n) where
   -- what its header says

@@ -46,11 +46,11 @@ ended rows t rs = state (after addUp rows rs) (acceptedOne t (answers addUp rows
 
 -- the first of them, and then the others
 ended-more : (rows : List Row) (t : Totals) (x : Report) (rs : List Report) → let p = postRows addUp rows x in
-    ended (p .rows) (answeredOne t (p .number)) rs ≡ ended rows t (x ∷ rs)
+    ended (p .rows) (answeredOne t (p .refusal)) rs ≡ ended rows t (x ∷ rs)
 unfolding answers after
 ended-more rows t x rs i =
     let p = postRows addUp rows x in
-    state (after addUp (p .rows) rs) (answered-more t (p .number) (answers addUp (p .rows) rs) i)
+    state (after addUp (p .rows) rs) (answered-more t (p .refusal) (answers addUp (p .rows) rs) i)
 
 -- 13 is in no count and leaves the rows
 ended-skip : (rows : List Row) (t : Totals) → Small t → (rs : List Report) → ended rows t rs ≡ ended rows t (refused notStatistics ∷ rs)
@@ -72,7 +72,7 @@ module _ (l : List ℕ) (x : Report) (r : ℕ) (m : List ℕ) (e : answer r m �
   -- and the others to be posted
   post-ended : (t : Totals) (rs : List Report) → ended (rowsOf m) (answeredOne t r) rs ≡ ended (rowsOf l) t (x ∷ rs)
   post-ended t rs =
-      (λ i. ended (post-rows i) (answeredOne t (ap (λ (a : Answer). a .number) e i)) rs) ∙ ended-more (rowsOf l) t x rs
+      (λ i. ended (post-rows i) (answeredOne t (ap (λ (a : Answer). a .refusal) e i)) rs) ∙ ended-more (rowsOf l) t x rs
 
 -- Where all are posted, what is left to do is to count the block
 all-posted : (l : List ℕ) (t : Totals) → Kept l → Small t → (st : State) → ended (rowsOf l) t [] ≡ st

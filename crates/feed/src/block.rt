@@ -67,8 +67,8 @@ pub fn post_block(cells: &mut [u64; CELLS], s: &[u8], len: usize, totals: Totals
     ensures { λ r. ⌜ (now (cells .exit) ≡ changed (λ rows. after addUp rows (reportsOf (now (s .entry)))) (now (cells .entry)))
         × (r ≡ acceptedOne totals (answers addUp (rowsOf (now (cells .entry))) (reportsOf (now (s .entry))))) ⌝ }
 {
-    let number = s[0];
-    if number != CATEGORY {
+    let cat = s[0];
+    if cat != CATEGORY {
         return with_accepted(totals);
     }
     let mut after = totals;

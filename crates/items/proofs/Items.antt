@@ -17,7 +17,7 @@ use Rattle.layouts.specs.Offsets.{runAt, traceAt, extensionAt, groupsAt}
 use Rattle.layouts.specs.Layouts.{fx, octet, times, chain, counted, format, kindOf, firstGroup}
 use Rattle.layouts.specs.Tables.{station, configuration, status, period, counter, version, layout}
 use Rattle.items.specs.Typed.{val, sourceOf, serviceOf, timeOf, sdpsOf, stationOf, configurationOf, placed, givenTrace, traceOf}
-use Rattle.layouts.proofs.Answers.{got-refused, pick-no, through}
+use Rattle.layouts.proofs.Parsed.{got-refused, pick-no, through}
 use Rattle.layouts.proofs.Windows.{run-trace}
 use Rattle.layouts.specs.declared.form.Form.{Form}
 use Rattle.layouts.specs.declared.form.Form.the-variants as form

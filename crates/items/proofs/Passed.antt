@@ -9,7 +9,7 @@ use Rattle.octets.specs.Choice.{pick}
 use Rattle.octets.specs.Numbers.{Octets, number}
 use Rattle.octets.specs.Refusals.{passesEnd, outOfRange}
 use Rattle.layouts.specs.Groups.{values, fits}
-use Rattle.layouts.specs.Formats.{Answer, refused, got, Trace, fitsIn}
+use Rattle.layouts.specs.Formats.{Parsed, refused, got, Trace, fitsIn}
 use Rattle.layouts.specs.Offsets.{runAt, itemAt, traceAt}
 use Rattle.layouts.specs.Layouts.{Layout, unused, fixed, extended, repeated, explicit, format, kindOf, firstGroup}
 use Rattle.layouts.specs.Ends.{endOf, kindEnd}
@@ -20,11 +20,11 @@ use Rattle.layouts.specs.declared.ends.End.{End}
 use Rattle.layouts.specs.declared.ends.Kind.{Kind}
 use Rattle.layouts.specs.declared.form.Form.{Form}
 
-end-refused : {A : Type 0} (m : Answer ℕ A) (n : ℕ) → endOf m ≡ End.Refused n → m ≡ refused n
+end-refused : {A : Type 0} (m : Parsed ℕ A) (n : ℕ) → endOf m ≡ End.Refused n → m ≡ refused n
 end-refused (refused k) n h = cc
 end-refused (got a q) n h = absurd (let z : _≡_ {A = ℕ} 0 1 = cc in omega arith)
 
-end-got : {A : Type 0} (m : Answer ℕ A) (q : ℕ) → endOf m ≡ End.At q → (a : A) × (m ≡ got a q)
+end-got : {A : Type 0} (m : Parsed ℕ A) (q : ℕ) → endOf m ≡ End.At q → (a : A) × (m ≡ got a q)
 end-got (refused n) q h = absurd (let z : _≡_ {A = ℕ} 0 1 = cc in omega arith)
 end-got (got a p) q h = (a, cc)
 

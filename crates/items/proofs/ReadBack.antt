@@ -11,7 +11,7 @@ use Rattle.octets.specs.Choice.{pick, when}
 use Rattle.octets.specs.Numbers.{laid}
 use Rattle.layouts.specs.Formats.{got, Format, fitsIn}
 use Rattle.layouts.specs.Offsets.{itemAt, traceAt}
-use Rattle.items.specs.Typed.{val, formOf, settled, Given, exact, placed, given, traceOf, givenTrace, givenRefusal, itemFormat, itemRefusal, itemOctets}
+use Rattle.items.specs.Typed.{val, formOf, settled, Supply, exact, placed, given, traceOf, givenTrace, givenRefusal, itemFormat, itemRefusal, itemOctets}
 use Rattle.layouts.proofs.Windows.{run-trace, run-read-back, item-read-back}
 use Rattle.items.proofs.Items.{itemOf}
 use Rattle.items.specs.declared.typed.Item.{Item}
@@ -26,7 +26,7 @@ fits-not : (b : Bool) (n : ℕ) → pick b 0 (suc n) ≡ 0 → b ≡ true
 fits-not true n h = refl
 fits-not false n h = absurd (omega arith)
 
-given-fits : (s : List ℕ) (f : Format) (x : Given) → givenRefusal s f x ≡ 0 → fitsIn f (givenTrace s x) ≡ true
+given-fits : (s : List ℕ) (f : Format) (x : Supply) → givenRefusal s f x ≡ 0 → fitsIn f (givenTrace s x) ≡ true
 given-fits s f (exact tr) h = fits-not (fitsIn f tr) 10 h
 given-fits s f (placed e g p) h =
     fits-not (fitsIn f (givenTrace s (placed e g p))) 10 (refused-not (eqb (p .count) 0) 7 _ (refused-not (ltb (length s) (p .at + p .count * g .wide)) 6 _ h))

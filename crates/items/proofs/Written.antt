@@ -15,7 +15,7 @@ use Rattle.layouts.specs.Groups.{merge, fits, Group}
 use Rattle.layouts.specs.Formats.{Format, done, stop, ask, Trace, fitsIn, put}
 use Rattle.layouts.specs.Layouts.{Layout, unused, fixed, extended, repeated, explicit, fx, octet, times, chain, counted, format, kindOf, firstGroup, entryGroup, entryOctets}
 use Rattle.layouts.specs.Tables.{source, messageType, service, time, sdps, report, station, period, configuration, status, counter, version, layout}
-use Rattle.items.specs.Typed.{Given, given, firstNumber, secondNumber, placeOf, formOf, fieldOf, countedOctets, itemRefusal, itemOctets}
+use Rattle.items.specs.Typed.{Supply, given, firstNumber, secondNumber, placeOf, formOf, fieldOf, countedOctets, itemRefusal, itemOctets}
 use Rattle.octets.proofs.Laying.{laid-laid}
 use Rattle.octets.proofs.Numbers.{length-octets}
 use Rattle.octets.proofs.Cases.{both}
@@ -32,7 +32,7 @@ use Rattle.items.specs.declared.typed.Item.the-variants as item
 use Rattle.items.specs.declared.typed.Place.{Place}
 
 -- as the code writes an item: by its first number, its extension's and its place
-abbrev pub octetsBy : List ℕ → Layout → Given → Kind → List ℕ
+abbrev pub octetsBy : List ℕ → Layout → Supply → Kind → List ℕ
 octetsBy s l x Spare = []
 octetsBy s l x (Fixed n) = octets n (firstNumber (firstGroup l) x)
 octetsBy s l x (Extended n m) = octets n (firstNumber (firstGroup l) x) ++ when (odd (firstNumber (firstGroup l) x)) (octets 1 (secondNumber x))
@@ -40,7 +40,7 @@ octetsBy s l x (Repeated n) = countedOctets s 0 (entryGroup l) (placeOf x)
 octetsBy s l x Explicit = countedOctets s 1 (entryGroup l) (placeOf x)
 
 -- and as it counts them
-abbrev pub lengthBy : Layout → Given → Kind → ℕ
+abbrev pub lengthBy : Layout → Supply → Kind → ℕ
 lengthBy l x Spare = 0
 lengthBy l x (Fixed n) = n
 lengthBy l x (Extended n m) = n + firstNumber (firstGroup l) x % 2
@@ -133,7 +133,7 @@ module _ (s : List ℕ) where
       go true e = length-octets 1 y ∙ sym (eqb-true (x % 2) 1 e)
       go false e = let z = eqb-false (x % 2) 1 e in omega arith
 
-  by-long : (l : Layout) (x : Given) → length (octetsBy s l x (kindOf l)) ≡ lengthBy l x (kindOf l)
+  by-long : (l : Layout) (x : Supply) → length (octetsBy s l x (kindOf l)) ≡ lengthBy l x (kindOf l)
   by-long unused x = refl
   by-long (fixed g) x = length-octets (g .wide) _
   by-long (extended g hs) x = extended-long (g .wide) (firstNumber g x) (secondNumber x)

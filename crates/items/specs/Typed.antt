@@ -126,13 +126,13 @@ settled at (item.Purpose p) = item.Purpose (record { at = at; count = p .count }
 abbrev pub placeAt : List ℕ → ℕ → ℕ → Place
 placeAt s at e = pick (leb (length s) at) (record { at = 0; count = 0 }) (record { at = at + 1; count = getD s at 0 % 256 - e })
 
--- what a typed item gives: values; or groups at a place of the source, counted by an octet that has e more
-pub data Given : Type 0 where
-  exact : Trace → Given
-  placed : (e : ℕ) → Group → Place → Given
+-- what a typed item supplies: values; or groups at a place of the source, counted by an octet that has e more
+pub data Supply : Type 0 where
+  exact : Trace → Supply
+  placed : (e : ℕ) → Group → Place → Supply
 
 -- FX is set where an extension follows, and is 0 in a last part
-abbrev pub given : Item → Given
+abbrev pub given : Item → Supply
 given item.Absent = exact []
 given (item.Source x) = exact ((x .sac ∷ x .sic ∷ []) ∷ [])
 given (item.MessageType x) = exact ((x ∷ []) ∷ [])
@@ -157,7 +157,7 @@ given (item.Versions p) = placed 0 version p
 given (item.Expansion p) = placed 1 octet p
 given (item.Purpose p) = placed 1 octet p
 
-abbrev pub givenTrace : List ℕ → Given → Trace
+abbrev pub givenTrace : List ℕ → Supply → Trace
 givenTrace s (exact tr) = tr
 givenTrace s (placed e g p) = ((p .count + e) ∷ []) ∷ groupsAt (p .count) g s (p .at)
 
@@ -166,7 +166,7 @@ abbrev pub traceOf : List ℕ → Item → Trace
 traceOf s i = givenTrace s (given i)
 
 -- by item 7, 8, 11: offset and octets pass the source's end, none, a value that does not fit
-abbrev pub givenRefusal : List ℕ → Format → Given → ℕ
+abbrev pub givenRefusal : List ℕ → Format → Supply → ℕ
 givenRefusal s f (exact tr) = pick (fitsIn f tr) 0 outOfRange
 givenRefusal s f (placed e g p) =
     pick (ltb (length s) (p .at + p .count * g .wide)) passesEnd
@@ -180,20 +180,20 @@ abbrev pub itemRefusal : List ℕ → Item → ℕ
 itemRefusal s i = givenRefusal s (itemFormat i) (given i)
 
 -- the number of the first group, and of the extension; of entries and content, their place
-abbrev pub firstNumber : Group → Given → ℕ
+abbrev pub firstNumber : Group → Supply → ℕ
 firstNumber g (exact tr) = merge (g .parts) (getD tr 0 []) 0
 firstNumber g (placed e h p) = 0
 
-abbrev pub secondNumber : Given → ℕ
+abbrev pub secondNumber : Supply → ℕ
 secondNumber (exact tr) = merge (period .parts) (getD tr 1 []) 0
 secondNumber (placed e h p) = 0
 
-abbrev pub placeOf : Given → Place
+abbrev pub placeOf : Supply → Place
 placeOf (exact tr) = record { at = 0; count = 0 }
 placeOf (placed e h p) = p
 
 -- values that are given as such fit
-abbrev pub exactFits : Format → Given → Bool
+abbrev pub exactFits : Format → Supply → Bool
 exactFits f (exact tr) = fitsIn f tr
 exactFits f (placed e h p) = true
 
@@ -216,11 +216,11 @@ sizeOf s i = pick (eqb (itemRefusal s i) 0) (Size.Octets (length (itemOctets s i
 -- The answer's cases, with document 01's number and values
 
 abbrev pub listedSize : Size → WrittenListed
-listedSize (size.Refused n) = record { number = n; length = 0 }
-listedSize (size.Octets k) = record { number = 0; length = k }
+listedSize (size.Refused n) = record { refusal = n; length = 0 }
+listedSize (size.Octets k) = record { refusal = 0; length = k }
 
 abbrev pub sizeListed : List ℕ → Item → WrittenListed
-sizeListed s i = record { number = itemRefusal s i; length = pick (eqb (itemRefusal s i) 0) (length (itemOctets s i)) 0 }
+sizeListed s i = record { refusal = itemRefusal s i; length = pick (eqb (itemRefusal s i) 0) (length (itemOctets s i)) 0 }
 
 -- an entry of 23/120, of its values
 abbrev pub counterOf : List ℕ → Counter

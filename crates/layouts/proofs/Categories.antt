@@ -8,7 +8,7 @@ use lib.Dec.{eqb}
 use lib.ListN.{getD}
 use borrow.Author.Tests.{ne-eqb}
 use Rattle.layouts.specs.Categories.{Category, known, category, fieldAt}
-use Rattle.layouts.specs.Presence.{rowsOf}
+use Rattle.layouts.specs.Presence.{needsOf}
 use Rattle.layouts.specs.Layouts.{kindOf}
 use Rattle.layouts.specs.Tables.{layout}
 use Rattle.layouts.specs.declared.category.Field.{Field}
@@ -55,20 +55,20 @@ spare-field c ks h f n =
     let e = spare-at (Form.Spare ∷ c .fields) 0 ks h f (rw zero-add (none-has (Unit {0}) ks f n .0)) in
     sym (ap (λ (x : Form). record { 0 = x; 1 = kindOf (layout x) }) e)
 
--- the field of a category whose number is m
+-- the field of a category whose CAT is m
 pub field-at : (m n f : ℕ) (r : Field) → r ≡ fieldAt (category m) f → n ≡ m → r ≡ fieldAt (category n) f
 field-at m n f r h e = rw e h
 
--- a category that no match names is not read, and has no field and no row
+-- a category that no match names is not read, and has no field and no need
 module _ (n : ℕ) (h : NoneOf (Unit {0}) (23 ∷ 65 ∷ 242 ∷ []) n) where
   pub not-known : known n ≡ false
   not-known = rw (ne-eqb n 23 (h .0 .0 .1), ne-eqb n 65 (h .0 .1), ne-eqb n 242 (h .1))
 
-  pub no-fields : category n ≡ record { number = n; most = 0; fields = [] }
+  pub no-fields : category n ≡ record { cat = n; most = 0; fields = [] }
   no-fields = rw (ne-eqb n 23 (h .0 .0 .1), ne-eqb n 65 (h .0 .1), ne-eqb n 242 (h .1))
 
-  pub no-rows : rowsOf n ≡ []
-  no-rows = rw (ne-eqb n 23 (h .0 .0 .1), ne-eqb n 65 (h .0 .1), ne-eqb n 242 (h .1))
+  pub no-needs : needsOf n ≡ []
+  no-needs = rw (ne-eqb n 23 (h .0 .0 .1), ne-eqb n 65 (h .0 .1), ne-eqb n 242 (h .1))
 
   pub no-field : (f : ℕ) → record { 0 = Form.Spare; 1 = Kind.Spare } ≡ fieldAt (category n) f
-  no-field f = rw no-fields (spare-field (record { number = n; most = 0; fields = [] }) [] (refl, tt) f tt)
+  no-field f = rw no-fields (spare-field (record { cat = n; most = 0; fields = [] }) [] (refl, tt) f tt)

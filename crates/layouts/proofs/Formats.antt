@@ -17,7 +17,7 @@ use Rattle.octets.proofs.Parts.{Octets-drop}
 use Rattle.layouts.specs.Groups.{values, merge, fits, Group}
 use Rattle.layouts.specs.Formats.{got, Format, done, stop, ask, Trace, fitsIn, put}
 use Rattle.layouts.proofs.Suffixes.{run, item}
-use Rattle.layouts.proofs.Answers.{through, pick-no, pick-yes, got-refused, OfGot}
+use Rattle.layouts.proofs.Parsed.{through, pick-no, pick-yes, got-refused, OfGot}
 use Rattle.layouts.proofs.Groups.{values-merge, merge-values, merge-lt, group-bits}
 
 -- a group

@@ -14,12 +14,12 @@ use Rattle.octets.specs.Numbers.{Octets, number}
 use Rattle.octets.specs.Refusals.{passesEnd, noCount, pastLast}
 use Rattle.octets.proofs.Cases.{choose, both}
 use Rattle.layouts.specs.Groups.{Part, spare, value, values, Group}
-use Rattle.layouts.specs.Formats.{Answer, refused, got, andThen, Format, done, stop, ask, Trace}
+use Rattle.layouts.specs.Formats.{Parsed, refused, got, andThen, Format, done, stop, ask, Trace}
 use Rattle.layouts.specs.Offsets.{runAt}
 use Rattle.layouts.specs.Layouts.{Layout, unused, fixed, extended, repeated, explicit, octet, lastOf, fx, times, chain, counted, format, kindOf}
 use Rattle.layouts.specs.Ends.{Ends, listedEnd, endOf, roomEnd, countedEnd, chainEnd, kindEnd}
 use Rattle.layouts.specs.Tables.{layout}
-use Rattle.layouts.proofs.Answers.{of-pick}
+use Rattle.layouts.proofs.Parsed.{of-pick}
 use Rattle.layouts.specs.declared.ends.End.{End}
 use Rattle.layouts.specs.declared.ends.End.the-variants.{At, Refused}
 use Rattle.layouts.specs.declared.form.Form.{Form}
@@ -92,7 +92,7 @@ number-low (suc k) s o h =
     rw e (omega arith)
 
 -- values put in front do not move the end
-pub end-then : {A B : Type 0} (f : A → B) (m : Answer ℕ A) → endOf (andThen m (λ a q. got (f a) q)) ≡ endOf m
+pub end-then : {A B : Type 0} (f : A → B) (m : Parsed ℕ A) → endOf (andThen m (λ a q. got (f a) q)) ≡ endOf m
 end-then f (refused n) = refl
 end-then f (got a q) = refl
 

@@ -1,4 +1,4 @@
-pub mod Answers
+pub mod Parsed
 pub mod Groups
 pub mod Suffixes
 pub mod Formats

@@ -8,9 +8,9 @@ use Rattle.octets.specs.Choice.{pick}
 use Rattle.octets.specs.Numbers.{number}
 use Rattle.octets.specs.Refusals.{passesEnd, outOfRange}
 use Rattle.layouts.specs.Groups.{values}
-use Rattle.layouts.specs.Formats.{Answer, refused, got, andThen, Format, done, stop, ask, Trace, fitsIn}
+use Rattle.layouts.specs.Formats.{Parsed, refused, got, andThen, Format, done, stop, ask, Trace, fitsIn}
 
-unfoldable pub run : Format → List ℕ → Answer (List ℕ) Trace
+unfoldable pub run : Format → List ℕ → Parsed (List ℕ) Trace
 run done s = got [] s
 run (stop n) s = refused n
 run (ask g k) s =
@@ -18,5 +18,5 @@ run (ask g k) s =
     let next = run (k v) (drop (g .wide) s) in
     pick (ltb (length s) (g .wide)) (refused passesEnd) (andThen next (λ tr r. got (v ∷ tr) r))
 
-unfoldable pub item : Format → List ℕ → Answer (List ℕ) Trace
+unfoldable pub item : Format → List ℕ → Parsed (List ℕ) Trace
 item f s = andThen (run f s) (λ tr r. pick (fitsIn f tr) (got tr r) (refused outOfRange))

@@ -16,10 +16,10 @@ use Rattle.octets.specs.Numbers.{number, laid}
 use Rattle.octets.specs.Refusals.{outOfRange}
 use Rattle.octets.proofs.Laying.{length-laid}
 use Rattle.layouts.specs.Groups.{values}
-use Rattle.layouts.specs.Formats.{Answer, refused, got, andThen, Format, done, stop, ask, Trace, fitsIn, put}
+use Rattle.layouts.specs.Formats.{Parsed, refused, got, andThen, Format, done, stop, ask, Trace, fitsIn, put}
 use Rattle.layouts.specs.Offsets.{runAt, itemAt, traceAt}
 use Rattle.layouts.proofs.Suffixes.{run, item}
-use Rattle.layouts.proofs.Answers.{got-refused, pick-no, through}
+use Rattle.layouts.proofs.Parsed.{got-refused, pick-no, through}
 use Rattle.layouts.proofs.Formats.{run-put}
 
 -- the octets from an offset to the end
@@ -27,18 +27,18 @@ abbrev pub window : List ℕ → ℕ → ℕ → List ℕ
 window s len at = drop at (take len s)
 
 -- the octets behind, for the offset behind
-abbrev pub behind : {A : Type 0} → List ℕ → ℕ → Answer ℕ A → Answer (List ℕ) A
+abbrev pub behind : {A : Type 0} → List ℕ → ℕ → Parsed ℕ A → Parsed (List ℕ) A
 behind s len (refused n) = refused n
 behind s len (got a at) = got a (window s len at)
 
 module _ {A B : Type 0} (s : List ℕ) (len : ℕ) where
-  pub behind-then : (m : Answer ℕ A) (f : A → ℕ → Answer ℕ B) (g : A → List ℕ → Answer (List ℕ) B)
+  pub behind-then : (m : Parsed ℕ A) (f : A → ℕ → Parsed ℕ B) (g : A → List ℕ → Parsed (List ℕ) B)
       → ((a : A) (q : ℕ) → g a (window s len q) ≡ behind s len (f a q))
       → andThen (behind s len m) g ≡ behind s len (andThen m f)
   behind-then (refused n) f g h = refl
   behind-then (got a q) f g h = h a q
 
-pub behind-pick : {A : Type 0} (s : List ℕ) (len : ℕ) (b : Bool) (m n : Answer ℕ A)
+pub behind-pick : {A : Type 0} (s : List ℕ) (len : ℕ) (b : Bool) (m n : Parsed ℕ A)
     → pick b (behind s len m) (behind s len n) ≡ behind s len (pick b m n)
 behind-pick s len true m n = refl
 behind-pick s len false m n = refl
@@ -114,7 +114,7 @@ module _ (s : List ℕ) (len : ℕ) where
       let (a, b) = run-within (k v) (at + g .wide) tr' q' room e' in
       (omega arith, omega arith)
 
-  pub behind-got : {A : Type 0} (m : Answer ℕ A) (a : A) (r : List ℕ) → behind s len m ≡ got a r
+  pub behind-got : {A : Type 0} (m : Parsed ℕ A) (a : A) (r : List ℕ) → behind s len m ≡ got a r
       → (q : ℕ) × (m ≡ got a q) × (window s len q ≡ r)
   behind-got (refused n) a r h = absurd (got-refused h)
   behind-got (got b q) a r h = (q, cc, cc)

@@ -12,14 +12,15 @@ use Rattle.layouts.specs.declared.form.Form.{Form}
 use Rattle.layouts.specs.declared.form.Form.the-variants.{Spare, Source, MessageType, Service, Identification, Time, Batch, Sdps, Report, Station, Configuration, Range, Status, Statistics, Versions, Expansion, Purpose}
 
 pub record Category : Type 0 where
-  pub number : ℕ
+  -- CAT, the first octet of its blocks
+  pub cat : ℕ
   -- the most specification octets
   pub most : ℕ
   pub fields : List Form
 
 abbrev pub cat23 : Category
 cat23 = record {
-  number = 23;
+  cat = 23;
   most = 2;
   fields =
       Source  -- 1, 010
@@ -41,7 +42,7 @@ cat23 = record {
 
 abbrev pub cat65 : Category
 cat65 = record {
-  number = 65;
+  cat = 65;
   most = 2;
   fields =
       Source  -- 1, 010
@@ -63,7 +64,7 @@ cat65 = record {
 
 abbrev pub cat242 : Category
 cat242 = record {
-  number = 242;
+  cat = 242;
   most = 1;
   fields =
       Source  -- 1, 010
@@ -80,12 +81,12 @@ cat242 = record {
 abbrev pub known : ℕ → Bool
 known n = eqb n 23 || (eqb n 65 || eqb n 242)
 
--- a category by its number; one that the box does not read has no field
+-- a category by its CAT; one that the box does not read has no field
 abbrev pub category : ℕ → Category
 category n =
     pick (eqb n 23) cat23
     (pick (eqb n 65) cat65
-    (pick (eqb n 242) cat242 (record { number = n; most = 0; fields = [] })))
+    (pick (eqb n 242) cat242 (record { cat = n; most = 0; fields = [] })))
 
 -- what stands at a field; a field past the last is spare (01 "Refusal numbers")
 abbrev pub formAt : Category → ℕ → Form
@@ -100,7 +101,7 @@ fieldAt c f = record { 0 = formAt c f; 1 = kindOf (layoutAt c f) }
 
 -- entries have one form in a category
 abbrev pub entriesForm : ℕ → Form
-entriesForm number = pick (eqb number 242) Versions Statistics
+entriesForm cat = pick (eqb cat 242) Versions Statistics
 
 -- marks of fields as a number: bit f - 1 for field f
 abbrev pub fieldMarks : List ℕ → ℕ

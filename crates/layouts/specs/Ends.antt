@@ -6,14 +6,14 @@ use lib.Dec.{leb, ltb}
 use lib.ListN.{getD}
 use Rattle.octets.specs.Choice.{pick, odd}
 use Rattle.octets.specs.Refusals.{spareMarked, passesEnd, noCount, pastLast}
-use Rattle.layouts.specs.Formats.{Answer, refused, got}
+use Rattle.layouts.specs.Formats.{Parsed, refused, got}
 use Rattle.layouts.specs.declared.ends.End.{End}
 use Rattle.layouts.specs.declared.ends.End.the-variants as end
 use Rattle.layouts.specs.declared.ends.Kind.{Kind}
 use Rattle.layouts.specs.declared.ends.Kind.the-variants.{Spare, Fixed, Extended, Repeated, Explicit}
 
--- the end that an answer of reading has
-abbrev pub endOf : {A : Type 0} → Answer ℕ A → End
+-- the end of what was read
+abbrev pub endOf : {A : Type 0} → Parsed ℕ A → End
 endOf (refused n) = End.Refused n
 endOf (got a at) = End.At at
 

@@ -6,12 +6,12 @@ use lib.ListN.{getD, drop}
 use Rattle.octets.specs.Numbers.{octets}
 use Rattle.layouts.specs.Groups.{merge, fits, Group}
 
--- an answer of reading: a refusal number; or what was read, and what is behind it (its offset)
-pub data Answer (R A : Type 0) : Type 0 where
-  refused : ℕ → Answer R A
-  got : A → R → Answer R A
+-- what reading gives: a refusal; or what was read, and what is behind it (its offset)
+pub data Parsed (R A : Type 0) : Type 0 where
+  refused : ℕ → Parsed R A
+  got : A → R → Parsed R A
 
-abbrev pub andThen : {R A B : Type 0} → Answer R A → (A → R → Answer R B) → Answer R B
+abbrev pub andThen : {R A B : Type 0} → Parsed R A → (A → R → Parsed R B) → Parsed R B
 andThen (refused n) f = refused n
 andThen (got a r) f = f a r
 

@@ -7,13 +7,13 @@ use Rattle.octets.specs.Choice.{pick, odd}
 use Rattle.octets.specs.Numbers.{number}
 use Rattle.octets.specs.Refusals.{passesEnd, outOfRange}
 use Rattle.layouts.specs.Groups.{values, Group}
-use Rattle.layouts.specs.Formats.{Answer, refused, got, andThen, Format, done, stop, ask, Trace, fitsIn}
+use Rattle.layouts.specs.Formats.{Parsed, refused, got, andThen, Format, done, stop, ask, Trace, fitsIn}
 use Rattle.layouts.specs.declared.ends.Kind.{Kind}
 use Rattle.layouts.specs.declared.ends.Kind.the-variants.{Spare, Fixed, Extended, Repeated, Explicit}
 
 module _ (s : List ℕ) (len : ℕ) where
   -- where it ends: 7 and the format's own refusals, as they are met
-  unfoldable pub runAt : Format → ℕ → Answer ℕ Trace
+  unfoldable pub runAt : Format → ℕ → Parsed ℕ Trace
   runAt done at = got [] at
   runAt (stop n) at = refused n
   runAt (ask g k) at =
@@ -22,7 +22,7 @@ module _ (s : List ℕ) (len : ℕ) where
       pick (ltb (len - at) (g .wide)) (refused passesEnd) (andThen next (λ tr q. got (v ∷ tr) q))
 
   -- an item: where it ends, and then its values (01 "Reading order")
-  unfoldable pub itemAt : Format → ℕ → Answer ℕ Trace
+  unfoldable pub itemAt : Format → ℕ → Parsed ℕ Trace
   itemAt f at = andThen (runAt f at) (λ tr q. pick (fitsIn f tr) (got tr q) (refused outOfRange))
 
 -- the values there, wherever the block ends

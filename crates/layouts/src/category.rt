@@ -1,7 +1,7 @@
 // The categories: a type for each, with its constants (document 01, "Block and field specification").
 ghost use mathlib.Core.Path.{_≡_};
 ghost use Rattle.layouts.specs.Categories.{cat23, cat65, cat242, known, category, fieldAt, fieldMarks, unusedMarks};
-ghost use Rattle.layouts.specs.Presence.{mandatory, rowsOf};
+ghost use Rattle.layouts.specs.Presence.{mandatory, needsOf};
 use crate::ends::Kind;
 use crate::form::Form;
 
@@ -13,7 +13,7 @@ pub const SPARE: Field = Field(Form::Spare, Kind::Spare);
 pub struct Cat23;
 
 impl Cat23 {
-    pub const NUMBER: u8 = 23;
+    pub const CAT: u8 = 23;
 
     // The most specification octets.
     pub const MOST: u8 = 2;
@@ -72,7 +72,7 @@ impl Cat23 {
 pub struct Cat65;
 
 impl Cat65 {
-    pub const NUMBER: u8 = 65;
+    pub const CAT: u8 = 65;
 
     // The most specification octets.
     pub const MOST: u8 = 2;
@@ -122,7 +122,7 @@ impl Cat65 {
 pub struct Cat242;
 
 impl Cat242 {
-    pub const NUMBER: u8 = 242;
+    pub const CAT: u8 = 242;
 
     // The most specification octets.
     pub const MOST: u8 = 1;
@@ -161,61 +161,61 @@ impl Cat242 {
 }
 
 // Whether the box reads a category.
-pub fn is_known(number: u8) -> bool
-    ensures { λ r. ⌜ r ≡ known number ⌝ }
+pub fn is_known(cat: u8) -> bool
+    ensures { λ r. ⌜ r ≡ known cat ⌝ }
 {
-    match number {
-        Cat23::NUMBER => true,
-        Cat65::NUMBER => true,
-        Cat242::NUMBER => true,
+    match cat {
+        Cat23::CAT => true,
+        Cat65::CAT => true,
+        Cat242::CAT => true,
         _ => false,
     }
 }
 
 // The most specification octets of a category.
-pub fn most_of(number: u8) -> u8
-    ensures { λ r. ⌜ r ≡ category number .most ⌝ }
+pub fn most_of(cat: u8) -> u8
+    ensures { λ r. ⌜ r ≡ category cat .most ⌝ }
 {
-    match number {
-        Cat23::NUMBER => Cat23::MOST,
-        Cat65::NUMBER => Cat65::MOST,
-        Cat242::NUMBER => Cat242::MOST,
+    match cat {
+        Cat23::CAT => Cat23::MOST,
+        Cat65::CAT => Cat65::MOST,
+        Cat242::CAT => Cat242::MOST,
         _ => 0,
     }
 }
 
 // The marks that every record of a category has.
-pub fn mandatory_of(number: u8) -> u32
-    ensures { λ r. ⌜ r ≡ fieldMarks (mandatory (rowsOf number)) ⌝ }
+pub fn mandatory_of(cat: u8) -> u32
+    ensures { λ r. ⌜ r ≡ fieldMarks (mandatory (needsOf cat)) ⌝ }
 {
-    match number {
-        Cat23::NUMBER => Cat23::MANDATORY,
-        Cat65::NUMBER => Cat65::MANDATORY,
-        Cat242::NUMBER => Cat242::MANDATORY,
+    match cat {
+        Cat23::CAT => Cat23::MANDATORY,
+        Cat65::CAT => Cat65::MANDATORY,
+        Cat242::CAT => Cat242::MANDATORY,
         _ => 0,
     }
 }
 
 // The marks that no record of a category has: of 32 fields those that are spare, or past the category's last.
-pub fn unused_of(number: u8) -> u32
-    ensures { λ r. ⌜ r ≡ unusedMarks 32 (category number .fields) ⌝ }
+pub fn unused_of(cat: u8) -> u32
+    ensures { λ r. ⌜ r ≡ unusedMarks 32 (category cat .fields) ⌝ }
 {
-    match number {
-        Cat23::NUMBER => Cat23::UNUSED,
-        Cat65::NUMBER => Cat65::UNUSED,
-        Cat242::NUMBER => Cat242::UNUSED,
+    match cat {
+        Cat23::CAT => Cat23::UNUSED,
+        Cat65::CAT => Cat65::UNUSED,
+        Cat242::CAT => Cat242::UNUSED,
         _ => 0xFFFF_FFFF,
     }
 }
 
 // What stands at a field of a category; a field past the last is spare.
-pub fn field_of(number: u8, f: usize) -> Field
-    ensures { λ r. ⌜ r ≡ fieldAt (category number) f ⌝ }
+pub fn field_of(cat: u8, f: usize) -> Field
+    ensures { λ r. ⌜ r ≡ fieldAt (category cat) f ⌝ }
 {
-    match number {
-        Cat23::NUMBER => Cat23::field(f),
-        Cat65::NUMBER => Cat65::field(f),
-        Cat242::NUMBER => Cat242::field(f),
+    match cat {
+        Cat23::CAT => Cat23::field(f),
+        Cat65::CAT => Cat65::field(f),
+        Cat242::CAT => Cat242::field(f),
         _ => SPARE,
     }
 }

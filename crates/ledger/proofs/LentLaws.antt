@@ -39,9 +39,9 @@ module _ (r : Answer) (w : Val) (is : Is answers.the-row r (w ∷ [])) where
   pub answer-is : w ≡ answered r
   answer-is = ap only (struct.tells answers.the-type answer-laws.the-laws r (w ∷ []) is)
 
-  -- its number is an octet
-  pub number-fits : r .number < 2 ^ 8
-  number-fits = struct.owed answers.the-type answer-laws.the-laws r (w ∷ []) is .0 .1
+  -- its refusal is an octet
+  pub refusal-fits : r .refusal < 2 ^ 8
+  refusal-fits = struct.owed answers.the-type answer-laws.the-laws r (w ∷ []) is .0 .1
 
   -- its ledger's fields are of their types
   pub ledger-fits : Fits (r .ledger)

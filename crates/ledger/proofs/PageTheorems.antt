@@ -66,7 +66,7 @@ load-store s o cells =
     load-cases (λ a. a ≡ answer 0 cells → storeOf cells ≡ puts s) s
     (λ h k e. subst (λ m. storeOf m ≡ puts s) (ap (λ a. a .ledger .cells) e)
     (store-puts (cellsIn s) _ refl k ∙ ap puts (ap pageOf (rows-back (rowsIn s)) ∙ page-rows s o (head-says s h))))
-    (λ e. let z : rulesBroken ≡ 0 = ap (λ a. a .number) e in absurd (omega arith))
+    (λ e. let z : rulesBroken ≡ 0 = ap (λ a. a .refusal) e in absurd (omega arith))
 
 -- What is loaded has the cells of a ledger, and a fresh ledger has them too.
 pub loaded-held : (s : List ℕ) → Octets s → Held (loadOf s .ledger .cells)

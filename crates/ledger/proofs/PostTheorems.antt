@@ -29,7 +29,7 @@ module _ (s : List ℕ) (k : ℕ) where
   -- A ledger that keeps the rules
   module _ (cells : List ℕ) (kept : Kept cells) where
     -- the answer is that of posting to its rows, and the ledger is that of the rows left
-    pub posted-is : postOf cells s k ≡ answer (onRows cells .number) (cellsOf (onRows cells .rows))
+    pub posted-is : postOf cells s k ≡ answer (onRows cells .refusal) (cellsOf (onRows cells .rows))
     unfolding postOf
     posted-is = rw (rules-kept cells kept)
 
@@ -40,10 +40,10 @@ module _ (s : List ℕ) (k : ℕ) where
     posted-kept o =
         subst (λ (a : Answer). Kept (a .ledger .cells)) (sym posted-is) (kept-of (onRows cells .rows) (post-ruled (rowsOf cells) (reportOf s k) (kept .good, kept .narrow) (octets-fit s k o)))
 
-    same-kept : (postOf cells s k .number ≡ 0 → ⊥) → posted cells ≡ cells
+    same-kept : (postOf cells s k .refusal ≡ 0 → ⊥) → posted cells ≡ cells
     same-kept h =
         ap (λ (a : Answer). a .ledger .cells) posted-is
-        ∙ ap cellsOf (all-or-nothing addUp (rowsOf cells) (reportOf s k) (λ e. h (ap (λ (a : Answer). a .number) posted-is ∙ e))) ∙ sym (kept .rest)
+        ∙ ap cellsOf (all-or-nothing addUp (rowsOf cells) (reportOf s k) (λ e. h (ap (λ (a : Answer). a .refusal) posted-is ∙ e))) ∙ sym (kept .rest)
 
     grows-kept : (c : ℕ) → lifeOf (rowOf (rowsOf cells) c) ≤ lifeOf (rowOf (rowsOf (posted cells)) c)
     grows-kept c = rw posted-rows (never-falls addUp adding-key adding-grows (rowsOf cells) (reportOf s k) (kept .good .rises) c)
@@ -55,7 +55,7 @@ module _ (s : List ℕ) (k : ℕ) where
     broken f = rw f
 
     -- a refused post gives the ledger back unchanged
-    pub posted-same : (postOf cells s k .number ≡ 0 → ⊥) → posted cells ≡ cells
+    pub posted-same : (postOf cells s k .refusal ≡ 0 → ⊥) → posted cells ≡ cells
     posted-same h =
         test (keepsRules cells) (λ t. same-kept cells (kept-rules cells held t) h) (λ f. ap (λ (a : Answer). a .ledger .cells) (broken f))
 

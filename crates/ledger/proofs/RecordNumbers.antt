@@ -23,10 +23,10 @@ module _ (s : List ℕ) (cat len : ℕ) (head : headerOf s ≡ Head.Good cat len
   at-end zero at h = unfold stepAt in step-end s cat len head at h
   at-end (suc k) at h = at-more s k at ∙ rw (step-end s cat len head at h)
 
-  none-further : (ts : List Record) (at k : ℕ) → Visited s at ts len → length ts ≤ k → stepAt s k at ≡ Step.Refused noSuch 0
-  none-further [] at k v h = at-end k at (omega arith)
-  none-further (t ∷ ts) at zero v h = absurd (omega arith)
-  none-further (t ∷ ts) at (suc k) v h = at-more s k at ∙ rw (v .1) (none-further ts (v .0) k (v .2) (omega arith))
+  none-after : (ts : List Record) (at k : ℕ) → Visited s at ts len → length ts ≤ k → stepAt s k at ≡ Step.Refused noSuch 0
+  none-after [] at k v h = at-end k at (omega arith)
+  none-after (t ∷ ts) at zero v h = absurd (omega arith)
+  none-after (t ∷ ts) at (suc k) v h = at-more s k at ∙ rw (v .1) (none-after ts (v .0) k (v .2) (omega arith))
 
 taken : (s : List ℕ) (len : ℕ) (ts : List Record) (at k : ℕ) → Visited s at ts len → k < length ts
     → (q : ℕ) × (stepAt s k at ≡ Step.Taken (getD ts k absent) (record { at = q }))
@@ -38,15 +38,15 @@ taken s len (t ∷ ts) at (suc k) v h =
 
 module _ (s : List ℕ) (len n : ℕ) (o : Octets s) (h : readOf s ≡ Reading.Accepted len n) where
   -- 17 exactly from the count on
-  pub number-past : (k : ℕ) → n ≤ k → stepAt s k 3 ≡ Step.Refused noSuch 0
-  number-past k l =
+  pub record-past : (k : ℕ) → n ≤ k → stepAt s k 3 ≡ Step.Refused noSuch 0
+  record-past k l =
       let (cat, rs, head, j, many, is) = read-filled s len n o h in
       let (c, ts, v, count, b) = visited s len n o h in
-      none-further s cat len head ts 3 k v (omega arith)
+      none-after s cat len head ts 3 k v (omega arith)
 
   -- below it the k-th of the records that steps from the first visit
-  pub number-taken : (k : ℕ) → k < n → (ts : List Record) × Visited s 3 ts len × (length ts ≡ n)
+  pub record-taken : (k : ℕ) → k < n → (ts : List Record) × Visited s 3 ts len × (length ts ≡ n)
       × ((q : ℕ) × (stepAt s k 3 ≡ Step.Taken (getD ts k absent) (record { at = q })))
-  number-taken k l =
+  record-taken k l =
       let (c, ts, v, count, b) = visited s len n o h in
       (ts, v, count, taken s len ts 3 k v (omega arith))

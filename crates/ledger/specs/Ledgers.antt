@@ -11,7 +11,7 @@ use Rattle.octets.specs.Refusals.{rulesBroken}
 use Rattle.rows.specs.Rows.{Row, newRow}
 use Rattle.rows.specs.Order.{upto}
 use Rattle.ledger.specs.declared.Answer.{Answer}
-use Rattle.ledger.specs.declared.cells.Row.{Row as Given}
+use Rattle.ledger.specs.declared.cells.Row.{Row as CodeRow}
 
 -- The cells: first the ledger's own numbers, of which the row count is the first; then 256 places of a row's numbers
 
@@ -60,12 +60,12 @@ changed f cells = cellsOf (f (rowsOf cells))
 abbrev pub putRow : List ℕ → ℕ → Row → List ℕ
 putRow cells i r = sets cells (placeAt i) (rowCells r)
 
--- a row that is handed on, and a number with the ledger that goes with it
-abbrev pub asRow : Given → Row
+-- a row that is handed on, and a refusal with the ledger that goes with it
+abbrev pub asRow : CodeRow → Row
 asRow r = record { key = r .key; life = r .life; reading = r .reading }
 
 abbrev pub answer : ℕ → List ℕ → Answer
-answer n cells = record { number = n; ledger = record { cells = cells } }
+answer n cells = record { refusal = n; ledger = record { cells = cells } }
 
 -- The rules, place by place
 

@@ -11,7 +11,7 @@ use Rattle.ledger.specs.declared.Answer.{Answer}
 
 -- a report posted to a ledger that keeps the rules
 abbrev pub postedTo : List ℕ → Report → Answer
-postedTo cells x = answer (postRows addUp (rowsOf cells) x .number) (changed (λ rows. postRows addUp rows x .rows) cells)
+postedTo cells x = answer (postRows addUp (rowsOf cells) x .refusal) (changed (λ rows. postRows addUp rows x .rows) cells)
 
 -- octets and a record number, posted to any ledger
 unfoldable pub postOf : List ℕ → List ℕ → ℕ → Answer

@@ -18,9 +18,9 @@ pub struct Ledger {
     pub cells: [u64; CELLS],
 }
 
-// A number, and the ledger that goes with it.
+// A refusal, 0 for none, and the ledger that goes with it.
 pub struct Answer {
-    pub number: u8,
+    pub refusal: u8,
     pub ledger: Ledger,
 }
 

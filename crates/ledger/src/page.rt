@@ -50,7 +50,7 @@ fn broken() -> Answer
 {
     let ledger = fresh();
     Answer {
-        number: refusal::RULES_BROKEN,
+        refusal: refusal::RULES_BROKEN,
         ledger: ledger,
     }
 }
@@ -81,7 +81,7 @@ pub fn load(page: &[u8]) -> Answer
     }
     let ledger = Ledger { cells: cells };
     Answer {
-        number: refusal::ACCEPTED,
+        refusal: refusal::ACCEPTED,
         ledger: ledger,
     }
 }

@@ -258,10 +258,10 @@ pub fn post(ledger: Ledger, s: &[u8], k: usize) -> Answer
     ensures { λ r. ⌜ r ≡ postOf (ledger .cells) (now (s .entry)) k ⌝ }
 {
     let mut cells = ledger.cells;
-    let number = post_cells(&mut cells, s, k);
+    let n = post_cells(&mut cells, s, k);
     let after = Ledger { cells: cells };
     Answer {
-        number: number,
+        refusal: n,
         ledger: after,
     }
 }

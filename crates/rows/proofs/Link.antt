@@ -16,7 +16,7 @@ use Rattle.rows.proofs.Cases.{either}
 use Rattle.rows.proofs.Numbers.{read-upto}
 use Rattle.rows.proofs.Traces.{ends, says}
 use Rattle.rows.proofs.Rows.{no-longer, add-append, sorted-add, sorted-all, row-own, row-other, row-all, has-all, length-all}
-use Rattle.rows.proofs.Maps.{put, passesMap, tallies, number, next, goes, tells}
+use Rattle.rows.proofs.Maps.{put, passesMap, tallies, refusal, next, goes, tells}
 use Rattle.rows.proofs.Posts.{post-cases, sorted-post}
 
 -- The keys that entries name
@@ -116,11 +116,11 @@ module _ (rule : Row → Entry → Row) (keeps-key : (r : Row) (e : Entry) → r
       ∙ ap (λ m. leb (2 ^ 64) (lifeOf (m (e .key))) || passesMap rule m es) (map-add e rows s)
 
   -- where there is room, the answer is the same
-  number-is : (rows : List Row) (x : Report) → Sorted rows → rowsFor rows (entries x) ≤ 256
-      → postRows rule rows x .number ≡ number rule (rowOf rows) x
-  unfolding postRows number
-  number-is rows (refused n) s h = refl
-  number-is rows (counts es) s h =
+  refusal-is : (rows : List Row) (x : Report) → Sorted rows → rowsFor rows (entries x) ≤ 256
+      → postRows rule rows x .refusal ≡ refusal rule (rowOf rows) x
+  unfolding postRows refusal
+  refusal-is rows (refused n) s h = refl
+  refusal-is rows (counts es) s h =
       rw (le-ltb 256 (rowsFor rows es) h, passes-is rows es s) (test (passesMap rule (rowOf rows) es) (λ t. rw t) (λ f. rw f))
 
   -- and the map of the rows is the next map
@@ -149,7 +149,7 @@ module _ (rule : Row → Entry → Row) (keeps-key : (r : Row) (e : Entry) → r
       let x = report rs i in
       let same = next-is rows x s (fits rows x (inOrder l rs) s room) in
       let w = follows (postRows rule rows x .rows) rs l (sorted-post rule keeps-key rows x s) (room-next rows x (inOrder l rs) s room) in (
-        λ j. number-is rows x s (fits rows x (inOrder l rs) s room) j ∷ (w .0 ∙ ap (λ m. says (goes rule rs) (tells rule rs) m l) same) j,
+        λ j. refusal-is rows x s (fits rows x (inOrder l rs) s room) j ∷ (w .0 ∙ ap (λ m. says (goes rule rs) (tells rule rs) m l) same) j,
         w .1 ∙ ap (λ m. ends (goes rule rs) m l) same,
       )
 

@@ -45,9 +45,9 @@ module _ (rule : Row → Entry → Row) where
   tallies m es k = tally rule k (m k) (ofKey k es)
 
   -- what a report is answered
-  unfoldable pub number : Map → Report → ℕ
-  number m (refused n) = n
-  number m (counts es) = pick (passesMap m es) lifePasses 0
+  unfoldable pub refusal : Map → Report → ℕ
+  refusal m (refused n) = n
+  refusal m (counts es) = pick (passesMap m es) lifePasses 0
 
   -- the map after it
   unfoldable pub next : Map → Report → Map
@@ -76,10 +76,10 @@ module _ (rule : Row → Entry → Row) where
       || passes-same (put m e) (put n e) es (λ k h. put-same m n e k (a k (rw (h, or-true (eqb (e .key) k))))) i
 
   -- the answer
-  number-same : (m n : Map) (x : Report) → Agree m n (entries x) → number m x ≡ number n x
-  unfolding number
-  number-same m n (refused c) a = refl
-  number-same m n (counts es) a = ap (λ b. pick b lifePasses 0) (passes-same m n es a)
+  refusal-same : (m n : Map) (x : Report) → Agree m n (entries x) → refusal m x ≡ refusal n x
+  unfolding refusal
+  refusal-same m n (refused c) a = refl
+  refusal-same m n (counts es) a = ap (λ b. pick b lifePasses 0) (passes-same m n es a)
 
   -- the row of any key on which they agree
   next-same : (m n : Map) (x : Report) → Agree m n (entries x) → (k : ℕ) → m k ≡ n k → next m x k ≡ next n x k
@@ -99,8 +99,8 @@ module _ (rule : Row → Entry → Row) where
     untouched k h = alone m y k (other k h)
 
     -- it is answered as it would be before y
-    number-apart : number (next m y) x ≡ number m x
-    number-apart = number-same (next m y) m x untouched
+    refusal-apart : refusal (next m y) x ≡ refusal m x
+    refusal-apart = refusal-same (next m y) m x untouched
 
     -- and does to its keys what it would do before y
     next-apart : (k : ℕ) → names k (entries x) ≡ true → next (next m y) x k ≡ next (next m x) y k
@@ -121,7 +121,7 @@ module _ (rule : Row → Entry → Row) where
 
   -- what report i is answered
   abbrev pub tells : List Report → Map → ℕ → ℕ
-  tells rs m i = number m (report rs i)
+  tells rs m i = refusal m (report rs i)
 
   -- in another order, each gets the answer that it had, and the map ends the same
   pub map-order : (m : Map) (rs : List Report) (order : List ℕ) → Order rs order
@@ -129,5 +129,5 @@ module _ (rule : Row → Entry → Row) where
       × (ends (goes rs) m order ≡ ends (goes rs) m (upto (length rs)))
   map-order m rs order o =
       reorder (goes rs) (tells rs) 0 (λ i j. Shares (report rs i) (report rs j)) (λ i j h. (h .0, h .2, h .1))
-      (λ n i j. commute n (report rs i) (report rs j)) (λ n i j. number-apart n (report rs i) (report rs j)) m (length rs) order
+      (λ n i j. commute n (report rs i) (report rs j)) (λ n i j. refusal-apart n (report rs i) (report rs j)) m (length rs) order
       (o .once) (o .keeps)

@@ -81,10 +81,10 @@ module _ (rule : Row → Entry → Row) (keeps-key : (r : Row) (e : Entry) → r
 
   -- for one report
   row-post : (rows : List Row) (x : Report) → Sorted rows → (k : ℕ)
-      → rowOf (postRows rule rows x .rows) k ≡ tally rule k (rowOf rows k) (ofKey k (took (postRows rule rows x .number) x))
+      → rowOf (postRows rule rows x .rows) k ≡ tally rule k (rowOf rows k) (ofKey k (took (postRows rule rows x .refusal) x))
   unfolding tally ofKey
   row-post rows x s k =
-      posted-cases rule (λ p. rowOf (p .rows) k ≡ tally rule k (rowOf rows k) (ofKey k (took (p .number) x))) rows x
+      posted-cases rule (λ p. rowOf (p .rows) k ≡ tally rule k (rowOf rows k) (ofKey k (took (p .refusal) x))) rows x
       (λ n bare. test (eqb n 0) (λ t. rw (t, bare (eqb-true n 0 t))) (λ f. rw f))
       (λ _ _. row-all rule keeps-key rows (entries x) s k)
 
@@ -96,7 +96,7 @@ module _ (rule : Row → Entry → Row) (keeps-key : (r : Row) (e : Entry) → r
       let p = postRows rule rows x in
       let rest = accepted (answers rule (p .rows) rs) rs in
       row-run (p .rows) rs (sorted-post rows x s) k
-      ∙ rw (of-append k (took (p .number) x) rest, tally-append rule k (rowOf rows k) (ofKey k (took (p .number) x)), row-post rows x s k)
+      ∙ rw (of-append k (took (p .refusal) x) rest, tally-append rule k (rowOf rows k) (ofKey k (took (p .refusal) x)), row-post rows x s k)
 
   -- The ledger's rules
 

@@ -47,7 +47,7 @@ module _ (rule : Row → Entry → Row) (keeps-key : (r : Row) (e : Entry) → r
 -- a report that is not answered 0 leaves the rows, whatever the rule
 pub all-or-nothing : (rule : Row → Entry → Row) → AllOrNothing rule
 all-or-nothing rule rows x =
-    posted-cases rule (λ p. (p .number ≡ 0 → ⊥) → p .rows ≡ rows) rows x (λ _ _ _. refl) (λ _ _ h. absurd (h refl))
+    posted-cases rule (λ p. (p .refusal ≡ 0 → ⊥) → p .rows ≡ rows) rows x (λ _ _ _. refl) (λ _ _ h. absurd (h refl))
 
 -- Document 01's rule is such a rule
 

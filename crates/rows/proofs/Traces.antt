@@ -56,7 +56,7 @@ module _ {S A : Type 0} (step : S → ℕ → S) (tell : S → ℕ → A) (d : A
       away : (i : ℕ) → 1 ≤ times i l → s ≡ i → ⊥
       away i o e = let q = ap (λ k. times k l) e in omega (arith, h s, times-head s l)
 
-  module _ (Clash : ℕ → ℕ → Type 0) (turn : (i j : ℕ) → Clash i j → Clash j i)
+  module _ (Clash : ℕ → ℕ → Type 0) (both-ways : (i j : ℕ) → Clash i j → Clash j i)
       (commute : (m : S) (i j : ℕ) → (Clash i j → ⊥) → step (step m i) j ≡ step (step m j) i)
       (unmoved : (m : S) (i j : ℕ) → (Clash i j → ⊥) → tell (step m j) i ≡ tell m i) where
     -- t clashes with none before it
@@ -78,7 +78,7 @@ module _ {S A : Type 0} (step : S → ℕ → S) (tell : S → ℕ → A) (d : A
     unfolding without ends told
     later m s l t n apart c =
         let swap = commute m s t apart in
-        let still = unmoved m t s (λ h. apart (turn t s h)) in
+        let still = unmoved m t s (λ h. apart (both-ways t s h)) in
         record {
           ending = rw n (c .ending ∙ ap (λ k. ends step k (without t l)) swap);
           telling = λ i. rw n (test (eqb s i)
@@ -108,7 +108,7 @@ module _ {S A : Type 0} (step : S → ℕ → S) (tell : S → ℕ → A) (d : A
       free i o p s =
           let n : t ≡ i → ⊥ = λ e. let q = ap (λ k. place k b) e in omega arith in
           let before : place t (t ∷ a) < place i (t ∷ a) = omega (arith, place-head t a, place-tail t i a n) in
-          omega (arith, r .keeps t i (omega (arith, times-head t a)) (omega (arith, r .same i)) before (turn i t s))
+          omega (arith, r .keeps t i (omega (arith, times-head t a)) (omega (arith, r .same i)) before (both-ways i t s))
 
       -- it is none of the rest
       inside : (i : ℕ) → 1 ≤ times i a → t ≡ i → ⊥

@@ -23,7 +23,7 @@ module _ (rule : Row → Entry → Row) where
 
   -- a report that is not answered 0 leaves the rows as they are
   abbrev pub AllOrNothing : Type 0
-  AllOrNothing = (rows : List Row) (r : Report) → (postRows rule rows r .number ≡ 0 → ⊥) → postRows rule rows r .rows ≡ rows
+  AllOrNothing = (rows : List Row) (r : Report) → (postRows rule rows r .refusal ≡ 0 → ⊥) → postRows rule rows r .rows ≡ rows
 
   -- no report lowers a life count
   abbrev pub NeverFalls : Type 0

@@ -37,11 +37,11 @@ rowsFor rows es = length rows + length (newKeys rows es)
 
 -- what a post answers, and the rows that it leaves
 pub record Posted : Type 0 where
-  pub number : ℕ
+  pub refusal : ℕ
   pub rows : List Row
 
 abbrev pub posted : ℕ → List Row → Posted
-posted n rows = record { number = n; rows = rows }
+posted n rows = record { refusal = n; rows = rows }
 
 module _ (rule : Row → Entry → Row) where
   -- the rows with an entry added up, where its key has its place among them; and with entries in turn
@@ -69,7 +69,7 @@ module _ (rule : Row → Entry → Row) where
   -- a run of reports: the answers in turn, and the rows at its end
   unfoldable pub answers : List Row → List Report → List ℕ
   answers rows [] = []
-  answers rows (r ∷ rs) = postRows rows r .number ∷ answers (postRows rows r .rows) rs
+  answers rows (r ∷ rs) = postRows rows r .refusal ∷ answers (postRows rows r .rows) rs
 
   unfoldable pub after : List Row → List Report → List Row
   after rows [] = rows

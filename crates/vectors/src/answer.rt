@@ -24,7 +24,7 @@ use text::emit;
 use text::more;
 use text::number;
 
-// Number, offset, LEN and count.
+// Refusal, offset, LEN and count.
 fn say_reading(text: &mut [u8], held: usize, answer: Reading) -> usize {
     match answer {
         Reading::Accepted(len, count) => {
@@ -40,7 +40,7 @@ fn say_reading(text: &mut [u8], held: usize, answer: Reading) -> usize {
     }
 }
 
-// Number, offset, the next start, and the record.
+// Refusal, offset, the next start, and the record.
 fn say_step(text: &mut [u8], held: usize, answer: Step) -> usize {
     match answer {
         Step::Taken(record, behind) => {
@@ -58,7 +58,7 @@ fn say_step(text: &mut [u8], held: usize, answer: Step) -> usize {
     }
 }
 
-// Number, offset, and the entry's three values.
+// Refusal, offset, and the entry's three values.
 fn say_entry(text: &mut [u8], held: usize, answer: Found) -> usize {
     match answer {
         Found::Counter(c) => {

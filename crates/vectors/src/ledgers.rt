@@ -70,11 +70,11 @@ pub(crate) fn say_rows(text: &mut [u8], held: usize, cells: &[u64; CELLS]) -> us
     at
 }
 
-// Number, row count and places.
+// Refusal, row count and places.
 fn say_ledger(text: &mut [u8], held: usize, answer: Answer) -> usize {
     let ledger = answer.ledger;
     let cells = ledger.cells;
-    let at = number(text, held, answer.number as u64);
+    let at = number(text, held, answer.refusal as u64);
     say_rows(text, at, &cells)
 }
 

@@ -34,7 +34,7 @@ fn kept(out: &[u8], from: usize) -> u64 {
     1
 }
 
-// Number, length, whether the rest stayed, and the octets, where there are some; a length past the output, which no answer has, is
+// Refusal, length, whether the rest stayed, and the octets, where there are some; a length past the output, which no answer has, is
 // said without them.
 fn say_octets(text: &mut [u8], held: usize, out: &[u8], n: u8, len: usize) -> usize {
     let at = number(text, held, n as u64);

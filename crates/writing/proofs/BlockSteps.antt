@@ -21,8 +21,8 @@ first-laid (y ∷ l) x p h =
     let b : 0 + suc (length p) ≡ suc (length p) = omega arith in
     rw (a, b)
 
-pub header-long : (number len : ℕ) → length (headerOctets number len) ≡ 3
-header-long number len = ap suc (length-octets 2 len)
+pub header-long : (cat len : ℕ) → length (headerOctets cat len) ≡ 3
+header-long cat len = ap suc (length-octets 2 len)
 
 -- How many octets a block has.
 pub block-long : (cat : ℕ) (rs : List Rec) → length (putBlock cat rs) ≡ length (putRecs (category cat) rs) + 3
@@ -39,8 +39,8 @@ block-laid l cat rs n e h =
     let same : n + 3 ≡ 3 + length body = omega arith in
     (rw three at (laid-laid l 0 (headerOctets cat (n + 3)) body (omega arith))) ∙ rw same
 
-pub header-same : (l l' : List ℕ) (number len : ℕ) → 3 ≤ length l → l' ≡ laid l 0 (headerOctets number len) → length l' ≡ length l
-header-same l l' number len h e = rw e (length-laid l 0 (headerOctets number len) (omega (arith, header-long number len)))
+pub header-same : (l l' : List ℕ) (cat len : ℕ) → 3 ≤ length l → l' ≡ laid l 0 (headerOctets cat len) → length l' ≡ length l
+header-same l l' cat len h e = rw e (length-laid l 0 (headerOctets cat len) (omega (arith, header-long cat len)))
 
 -- the header laid, and then the records
 module _ (cat : ℕ) (rs : List Rec) (n : ℕ) (is : n ≡ length (putRecs (category cat) rs)) (l l₁ : List ℕ) (h : n + 3 ≤ length l)

@@ -11,7 +11,7 @@ use lib.ListN.{length, getD, take, length-append}
 use Rattle.octets.specs.Numbers.{Octets, number}
 use Rattle.octets.proofs.Numbers.{number-lt}
 use Rattle.octets.proofs.Parts.{Octets-drop, Octets-take}
-use Rattle.layouts.specs.Formats.{Answer, refused, got}
+use Rattle.layouts.specs.Formats.{Parsed, refused, got}
 use Rattle.layouts.specs.Categories.{Category, known, category}
 use Rattle.layouts.proofs.Windows.{window, behind, window-long}
 use Rattle.blocks.specs.Records.{Rec, putRec}
@@ -62,7 +62,7 @@ module _ (s : List ℕ) (len : ℕ) (c : Category) where
     good-fuel (suc n) zero at h k = good-end (suc n) at (omega arith) ∙ sym (good-end 0 at (omega arith))
     good-fuel (suc n) (suc m) at h k = go (leb len at) refl (λ q l. good-fuel n m q (omega arith) (omega arith))
       where
-        from : ((q : ℕ) → at < q → goodAt s len c n q ≡ goodAt s len c m q) → (a : Answer ℕ Rec) → recordAt s len c at ≡ a
+        from : ((q : ℕ) → at < q → goodAt s len c n q ≡ goodAt s len c m q) → (a : Parsed ℕ Rec) → recordAt s len c at ≡ a
             → goodFrom s len c a (λ q. goodAt s len c n q) ≡ goodFrom s len c a (λ q. goodAt s len c m q)
         from ih (refused i) e = refl
         from ih (got r q) e = ap (λ (rs : List Rec). r ∷ rs) (ih q (record-within s len c o at q r e .0))
@@ -111,7 +111,7 @@ module _ (s : List ℕ) (len : ℕ) (c : Category) where
       good-short zero at h = none-short at _ h (good-zero at)
       good-short (suc n) at h = go (leb len at) refl (good-short n)
         where
-          from : ((q : ℕ) → q ≤ len → q + length (putRecs c (goodAt s len c n q)) ≤ len) → (a : Answer ℕ Rec) → recordAt s len c at ≡ a
+          from : ((q : ℕ) → q ≤ len → q + length (putRecs c (goodAt s len c n q)) ≤ len) → (a : Parsed ℕ Rec) → recordAt s len c at ≡ a
               → at + length (putRecs c (goodFrom s len c a (λ q. goodAt s len c n q))) ≤ len
           from ih (refused i) e = none-short at [] h refl
           from ih (got r q) e = record-then at q r (goodAt s len c n q) e (ih q (record-within s len c o at q r e .1))

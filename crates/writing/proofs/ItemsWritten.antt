@@ -18,7 +18,7 @@ use Rattle.layouts.specs.Categories.{category, formAt, fieldAt}
 use Rattle.layouts.specs.declared.category.Field.{Field}
 use Rattle.layouts.specs.declared.form.Form.{Form}
 use Rattle.layouts.specs.declared.form.Form.the-variants as form
-use Rattle.layouts.proofs.Answers.{and-yes}
+use Rattle.layouts.proofs.Parsed.{and-yes}
 use Rattle.items.specs.Typed.{formOf, fieldOf, given, traceOf, itemRefusal, itemOctets, sizeOf}
 use Rattle.items.specs.declared.item.Size.{Size}
 use Rattle.items.specs.declared.typed.Item.{Item}

@@ -18,15 +18,15 @@ use Rattle.layouts.specs.Categories.{Category, known, category}
 use Rattle.layouts.specs.declared.form.Form.{Form}
 use Rattle.items.specs.Typed.{traceOf}
 use Rattle.blocks.specs.Specification.{zeros, putMarks, flags}
-use Rattle.layouts.specs.Presence.{Row, rowsOf, meets}
+use Rattle.layouts.specs.Presence.{FieldNeed, needsOf, meets}
 use Rattle.blocks.specs.Marks.{flagsOf}
-use Rattle.blocks.specs.Records.{formats, marksSpare, layoutOf, flagsRefusal, marksRefusal, valueOr, typeOf, present, putRec}
+use Rattle.blocks.specs.Records.{formats, marksSpare, layoutOf, flagsRefusal, specificationRefusal, valueOr, typeOf, present, putRec}
 use Rattle.blocks.specs.Meaning.{itemIn, sevens, valuesOf, recOf}
 use Rattle.blocks.specs.declared.record.Record.{Record}
 use Rattle.blocks.proofs.MeaningLaws.{two, low-bit}
 use Rattle.blocks.proofs.MarksLaws.{flags-long, no-flags, formats-more, refusal-more, meets-more}
 use Rattle.blocks.proofs.WalkSteps.{by-known, Table, table, no-spare}
-use Rattle.writing.specs.Judged.{itemsOctets, markedRefusal, recordOctets, typeIn, specificationOctet}
+use Rattle.writing.specs.Judged.{itemsOctets, markedRefusal, recordOctets, markedType, specificationOctet}
 
 -- Seven bits
 
@@ -235,7 +235,7 @@ module _ (n m : ℕ) (c : Category) (w : Table n c) (l : m < 2 ^ length (c .fiel
   refusal-put : flagsRefusal c (flags (sevens (c .most) m)) ≡ flagsRefusal c (flagsOf 32 m)
   refusal-put = rw (flags-put, refusal-more)
 
-  meets-put : (rs : List Row) (kind : ℕ) → meets rs kind (flags (sevens (c .most) m)) ≡ meets rs kind (flagsOf 32 m)
+  meets-put : (rs : List FieldNeed) (kind : ℕ) → meets rs kind (flags (sevens (c .most) m)) ≡ meets rs kind (flagsOf 32 m)
   meets-put rs kind = rw (flags-put, meets-more)
 
 -- the value of item 000
@@ -245,11 +245,11 @@ module _ (s : List ℕ) (t : Record) where
   field-two false = refl
 
   type-in : (n : ℕ) → known n ≡ true
-      → typeOf (category n) (valuesOf s t (flagsOf 32 (t .marks)) (category n .fields)) ≡ typeIn n (t .marks) (t .«message_type»)
+      → typeOf (category n) (valuesOf s t (flagsOf 32 (t .marks)) (category n .fields)) ≡ markedType n (t .marks) (t .«message_type»)
   unfolding valuesOf flagsOf
   type-in =
       by-known
-      (λ (n : ℕ). typeOf (category n) (valuesOf s t (flagsOf 32 (t .marks)) (category n .fields)) ≡ typeIn n (t .marks) (t .«message_type»))
+      (λ (n : ℕ). typeOf (category n) (valuesOf s t (flagsOf 32 (t .marks)) (category n .fields)) ≡ markedType n (t .marks) (t .«message_type»))
       (field-two (odd (t .marks / 2)))
       (field-two (odd (t .marks / 2)))
       refl
@@ -283,14 +283,14 @@ module _ (s : List ℕ) (t : Record) (k : known (t .category) ≡ true) (small :
   unfolding recOf layoutOf
   layout-same = formats-put (t .category) (t .marks) (category (t .category)) (table (t .category) k) by-fields
 
-  pub marks-good : marksRefusal (category (t .category)) (recOf s t .marks) ≡ 0
-  unfolding marksRefusal recOf
+  pub marks-good : specificationRefusal (category (t .category)) (recOf s t .marks) ≡ 0
+  unfolding specificationRefusal recOf
   marks-good = refusal-put (t .category) (t .marks) (category (t .category)) (table (t .category) k) by-fields ∙ fine
 
   -- presence, as the code tests it
   pub present-by-type : present (category (t .category)) (recOf s t .marks) (recOf s t .items)
-      ≡ meets (rowsOf (t .category)) (typeIn (t .category) (t .marks) (t .«message_type»)) (flagsOf 32 (t .marks))
+      ≡ meets (needsOf (t .category)) (markedType (t .category) (t .marks) (t .«message_type»)) (flagsOf 32 (t .marks))
   unfolding present recOf
   present-by-type =
       let w = table (t .category) k in
-      rw (type-in s t (t .category) k, w .number, meets-put (t .category) (t .marks) (category (t .category)) w by-fields)
+      rw (type-in s t (t .category) k, w .cat, meets-put (t .category) (t .marks) (category (t .category)) w by-fields)

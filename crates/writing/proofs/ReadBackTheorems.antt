@@ -40,7 +40,7 @@ use Rattle.blocks.specs.declared.walk.Reading.{Reading}
 use Rattle.blocks.specs.declared.cursor.Step.{Step}
 use Rattle.blocks.specs.declared.cursor.Found.{Found}
 use Rattle.blocks.proofs.WalkSteps.{by-known, table}
-use Rattle.blocks.proofs.BlockLaws.{category-number}
+use Rattle.blocks.proofs.BlockLaws.{category-cat}
 use Rattle.blocks.proofs.FormLaws.{field-form}
 use Rattle.blocks.proofs.TypedLaws.{groups-at}
 use Rattle.blocks.proofs.MeaningLaws.{made-item, means-read}
@@ -214,7 +214,7 @@ module _ (s : List ℕ) (o : Octets s) (t : Record) (w : Fine s t) (small : t .m
 
   back-category : back .category ≡ t .category
   unfolding typedRec
-  back-category = category-number (t .category)
+  back-category = category-cat (t .category)
 
   back-marks : back .marks ≡ t .marks
   unfolding typedRec recOf
@@ -236,8 +236,8 @@ module _ (s : List ℕ) (o : Octets s) (t : Record) (w : Fine s t) (small : t .m
   back-item f own b h =
       let c = category (t .category) in
       let r = recOf s t in
-      let same : otherForm (c .number) ≡ otherForm (t .category) = ap otherForm (category-number (t .category)) in
-      made-item (c .number) (marksOf (flags (r .marks))) (valuesFor c r) (startFor x len c r from) f (λ e. own (e ∙ same))
+      let same : otherForm (c .cat) ≡ otherForm (t .category) = ap otherForm (category-cat (t .category)) in
+      made-item (c .cat) (marksOf (flags (r .marks))) (valuesFor c r) (startFor x len c r from) f (λ e. own (e ∙ same))
       ∙ ap (λ (tr : Trace). itemOf f tr (placed-at f tr)) (values-for s t f ∙ ap (λ (b : Bool). pick b (traceOf s (itemIn t f)) []) h)
 
   -- marked, it is the item that was given

@@ -14,14 +14,14 @@ use Rattle.octets.proofs.Laying.{length-laid, laid-laid}
 use Rattle.layouts.specs.Categories.{known, category}
 use Rattle.items.specs.declared.item.Size.{Size}
 use Rattle.blocks.specs.Specification.{putMarks}
-use Rattle.layouts.specs.Presence.{rowsOf, meets}
+use Rattle.layouts.specs.Presence.{needsOf, meets}
 use Rattle.blocks.specs.Marks.{flagsOf}
 use Rattle.blocks.specs.Records.{present, putRec}
 use Rattle.blocks.specs.Blocks.{putRecs, putBlock}
 use Rattle.blocks.specs.Meaning.{sevens, recOf}
 use Rattle.blocks.specs.declared.record.Record.{Record}
 use Rattle.blocks.proofs.WalkSteps.{table}
-use Rattle.writing.specs.Judged.{orElse, typeIn, itemsRefusal, itemsSize, flags, fields, itemsOctets, markedRefusal, presenceRefusal, recordRefusal, recordOctets, recordSize}
+use Rattle.writing.specs.Judged.{orElse, markedType, itemsRefusal, itemsSize, flags, fields, itemsOctets, markedRefusal, presenceRefusal, recordRefusal, recordOctets, recordSize}
 use Rattle.octets.specs.Outcomes.{no, puts}
 use Rattle.writing.specs.Written.{writeOf}
 use Rattle.writing.proofs.MarksWritten.{record-parts, present-by-type}
@@ -88,7 +88,7 @@ module _ (s : List ℕ) (t : Record) where
           size-refused n (by-items ∙ or-first ofItems _ n (sym e) f) f
 
       module _ (small : t .marks < 4294967296) (n : ℕ) (is : Size.Octets n ≡ itemsSize s t (flags s t) (fields s t))
-          (b : Bool) (e : b ≡ meets (rowsOf (t .category)) (typeIn (t .category) (t .marks) (t .«message_type»)) (flagsOf 32 (t .marks))) where
+          (b : Bool) (e : b ≡ meets (needsOf (t .category)) (markedType (t .category) (t .marks) (t .«message_type»)) (flagsOf 32 (t .marks))) where
         items-fine : (ofItems ≡ 0) × (n ≡ length (itemsOctets s t))
         unfolding itemsSize
         items-fine = octets-size ofItems _ n is

@@ -15,19 +15,19 @@ use Rattle.layouts.specs.Layouts.{format}
 use Rattle.layouts.specs.Tables.{layout}
 use Rattle.layouts.specs.Categories.{Category, known, category}
 use Rattle.layouts.specs.declared.form.Form.{Form}
-use Rattle.layouts.proofs.Answers.{pick-yes, through}
+use Rattle.layouts.proofs.Parsed.{pick-yes, through}
 use Rattle.items.specs.Typed.{itemRefusal}
 use Rattle.items.proofs.Items.{itemOf}
 use Rattle.items.proofs.Judged.{read-refusal}
 use Rattle.blocks.specs.Specification.{flags}
-use Rattle.blocks.specs.Records.{Rec, layoutOf, flagsRefusal, marksRefusal, present, putRec}
+use Rattle.blocks.specs.Records.{Rec, layoutOf, flagsRefusal, specificationRefusal, present, putRec}
 use Rattle.blocks.specs.Offsets.{itemsAt, recordAt}
 use Rattle.blocks.specs.Typed.{typedRec}
 use Rattle.blocks.specs.Steps.{itemsFrom}
 use Rattle.blocks.specs.Meaning.{itemIn, recOf}
 use Rattle.blocks.specs.declared.record.Record.{Record}
-use Rattle.blocks.proofs.BlockLaws.{category-number}
-use Rattle.blocks.proofs.MarksLaws.{flags-32, mark-more, refusal-more, specs-marked}
+use Rattle.blocks.proofs.BlockLaws.{category-cat}
+use Rattle.blocks.proofs.MarksLaws.{flags-32, mark-more, refusal-more, specification-marked}
 use Rattle.blocks.proofs.ReadSteps.{record-parts}
 use Rattle.blocks.proofs.FormLaws.{Forms, forms}
 use Rattle.blocks.proofs.MeaningLaws.{item-read, means-read}
@@ -87,8 +87,8 @@ module _ (s : List ℕ) (len : ℕ) (c : Category) (w : Forms c) (gs : List ℕ)
   unfolding typedRec
   is-category = w .same
 
-  mark-fine : marksRefusal c gs ≡ 0 → markedRefusal s t ≡ 0
-  unfolding marksRefusal
+  mark-fine : specificationRefusal c gs ≡ 0 → markedRefusal s t ≡ 0
+  unfolding specificationRefusal
   mark-fine z =
       ap (λ (c : Category). flagsRefusal c (judged.flags s t)) is-category
       ∙ ap (flagsRefusal c) flags-are
@@ -102,37 +102,37 @@ module _ (s : List ℕ) (len : ℕ) (c : Category) (w : Forms c) (gs : List ℕ)
       let (e, is) = item-read s len c w gs trs p q read n l marked in
       rw is (item-fine s len fit (getD (c .fields) n Form.Spare) _ (getD trs n []) _ e)
 
-  typed-fine : len ≤ length s → known (c .number) ≡ true → marksRefusal c gs ≡ 0
+  typed-fine : len ≤ length s → known (c .cat) ≡ true → specificationRefusal c gs ≡ 0
       → present c gs trs ≡ true → recOf s t ≡ record { marks = gs; items = trs } → recordRefusal s t ≡ 0
   unfolding typedRec
   typed-fine fit k z y means =
       record-fine s t c (record { marks = gs; items = trs }) is-category means k (mark-fine z) (values-fine fit) y
 
-module _ (s : List ℕ) (len number : ℕ) (c : Category) (w : Forms c) (tab : Table number c) (at : ℕ) (o : Octets s) (fit : len ≤ length s)
-    (k : known (c .number) ≡ true) where
+module _ (s : List ℕ) (len cat : ℕ) (c : Category) (w : Forms c) (tab : Table cat c) (at : ℕ) (o : Octets s) (fit : len ≤ length s)
+    (k : known (c .cat) ≡ true) where
   judged-at : (r : Rec) (q : ℕ) → recordAt s len c at ≡ got r q → recOf s (typedRec s len c r (itemsFrom s len c at)) ≡ r
       → recordRefusal s (typedRec s len c r (itemsFrom s len c at)) ≡ 0
   judged-at r q h means =
       let (p, e, e', z, y) = record-parts s len c at q r h in
-      let m = specs-marked s len (c .most - 1) at (r .marks) p o e in
+      let m = specification-marked s len (c .most - 1) at (r .marks) p o e in
       let few : length (r .marks) ≤ 4 = omega (arith, m .long, tab .some, tab .few) in
       let is : itemsFrom s len c at ≡ p = rw e in
       rw is (typed-fine s len c w (r .marks) (r .items) p q few e' fit k (eqb-true _ _ z) y (rw is at means))
 
-module _ (s : List ℕ) (len number at : ℕ) (o : Octets s) (fit : len ≤ length s) (k : known number ≡ true) where
+module _ (s : List ℕ) (len cat at : ℕ) (o : Octets s) (fit : len ≤ length s) (k : known cat ≡ true) where
   abbrev made : Rec → Record
-  made r = typedRec s len (category number) r (itemsFrom s len (category number) at)
+  made r = typedRec s len (category cat) r (itemsFrom s len (category cat) at)
 
   -- A record that was read is not refused.
-  pub read-judged : (r : Rec) (q : ℕ) → recordAt s len (category number) at ≡ got r q
+  pub read-judged : (r : Rec) (q : ℕ) → recordAt s len (category cat) at ≡ got r q
       → (t : Record) → t ≡ made r → recordRefusal s t ≡ 0
   read-judged r q h t is =
       ap (recordRefusal s) is
-      ∙ judged-at s len number (category number) (forms number k) (table number k) at o fit (rw (category-number number) k) r q h
-      (means-read s len number at o k r q h)
+      ∙ judged-at s len cat (category cat) (forms cat k) (table cat k) at o fit (rw (category-cat cat) k) r q h
+      (means-read s len cat at o k r q h)
 
   -- Its octets are its normal form.
-  pub read-octets : (r : Rec) (q : ℕ) → recordAt s len (category number) at ≡ got r q
-      → (t : Record) → t ≡ made r → recordOctets s t ≡ putRec (category number) r
+  pub read-octets : (r : Rec) (q : ℕ) → recordAt s len (category cat) at ≡ got r q
+      → (t : Record) → t ≡ made r → recordOctets s t ≡ putRec (category cat) r
   unfolding recordOctets typedRec
-  read-octets r q h t is = ap (recordOctets s) is ∙ rw (means-read s len number at o k r q h, category-number number)
+  read-octets r q h t is = ap (recordOctets s) is ∙ rw (means-read s len cat at o k r q h, category-cat cat)

@@ -33,17 +33,17 @@ use Rattle.writing.proofs.RecordWritten.{refused-size, write-good}
 use Rattle.writing.proofs.BlockSteps.{block-long, body-room, body-same, body-laid}
 
 -- The octets of the records from an offset on, in normal form
-module _ (s : List ℕ) (len number : ℕ) where
+module _ (s : List ℕ) (len cat : ℕ) where
   abbrev pub rest : ℕ → List ℕ
-  rest at = putRecs (category number) (goodAt s len (category number) len at)
+  rest at = putRecs (category cat) (goodAt s len (category cat) len at)
 
   rest-end : (at : ℕ) → len ≤ at → rest at ≡ []
   unfolding putRecs
-  rest-end at h = rw (good-end s len (category number) len at h)
+  rest-end at h = rw (good-end s len (category cat) len at h)
 
-  rest-stopped : (at n p : ℕ) → takeOf s len number at ≡ Step.Refused n p → rest at ≡ []
+  rest-stopped : (at n p : ℕ) → takeOf s len cat at ≡ Step.Refused n p → rest at ≡ []
   unfolding putRecs
-  rest-stopped at n p h = rw (good-refused s len (category number) len at n (take-stopped s len number at n p h))
+  rest-stopped at n p h = rw (good-refused s len (category cat) len at n (take-stopped s len cat at n p h))
 
   -- a record that is taken
   pub record Next (at : ℕ) (t : Record) (next : ℕ) : Type 0 where
@@ -52,20 +52,20 @@ module _ (s : List ℕ) (len number : ℕ) where
     pub fine : recordRefusal s t ≡ 0
     pub is : rest at ≡ recordOctets s t ++ rest next
 
-  pub rest-next : Octets s → len ≤ length s → known number ≡ true → (at : ℕ) → at < len
-      → (t : Record) (c : Cursor) → takeOf s len number at ≡ Step.Taken t c → Next at t (c .at)
+  pub rest-next : Octets s → len ≤ length s → known cat ≡ true → (at : ℕ) → at < len
+      → (t : Record) (c : Cursor) → takeOf s len cat at ≡ Step.Taken t c → Next at t (c .at)
   unfolding putRecs
   rest-next o fit k at more t c h =
-      let w = take-took s len number at t c h in
+      let w = take-took s len cat at t c h in
       let e = w .is in
-      let (l, m) = record-within s len (category number) o at (c .at) (w .r) e in
+      let (l, m) = record-within s len (category cat) o at (c .at) (w .r) e in
       record {
         forward = l;
         within = m;
-        fine = read-judged s len number at o fit k (w .r) (c .at) e t (w .same);
+        fine = read-judged s len cat at o fit k (w .r) (c .at) e t (w .same);
         is =
-            rw (good-step s len (category number) o len at (w .r) (c .at) more (omega arith) e)
-            (ap (λ (x : List ℕ). x ++ rest (c .at)) (sym (read-octets s len number at o fit k (w .r) (c .at) e t (w .same))));
+            rw (good-step s len (category cat) o len at (w .r) (c .at) more (omega arith) e)
+            (ap (λ (x : List ℕ). x ++ rest (c .at)) (sym (read-octets s len cat at o fit k (w .r) (c .at) e t (w .same))));
       }
 
   -- Counting: the octets so far, and those of the records from an offset on
@@ -82,7 +82,7 @@ module _ (s : List ℕ) (len number : ℕ) where
   pub counted-end : (total at : ℕ) → Counted total at → len ≤ at → total ≡ length (rest 3)
   counted-end total at w h = counted-last total at w (rest-end at h)
 
-  pub counted-stopped : (total at : ℕ) → Counted total at → (n p : ℕ) → takeOf s len number at ≡ Step.Refused n p → total ≡ length (rest 3)
+  pub counted-stopped : (total at : ℕ) → Counted total at → (n p : ℕ) → takeOf s len cat at ≡ Step.Refused n p → total ≡ length (rest 3)
   counted-stopped total at w n p h = counted-last total at w (rest-stopped at n p h)
 
   -- Writing: the octets from an offset on are still to be laid
@@ -102,12 +102,12 @@ module _ (s : List ℕ) (len number : ℕ) where
   pub put-end : (out₀ out : List ℕ) (p at : ℕ) → Put out₀ out p at → len ≤ at → out ≡ laid out₀ 3 (rest 3)
   put-end out₀ out p at w h = put-last out₀ out p at w (rest-end at h)
 
-  pub put-stopped : (out₀ out : List ℕ) (p at : ℕ) → Put out₀ out p at → (n q : ℕ) → takeOf s len number at ≡ Step.Refused n q
+  pub put-stopped : (out₀ out : List ℕ) (p at : ℕ) → Put out₀ out p at → (n q : ℕ) → takeOf s len cat at ≡ Step.Refused n q
       → out ≡ laid out₀ 3 (rest 3)
   put-stopped out₀ out p at w n q h = put-last out₀ out p at w (rest-stopped at n q h)
 
-  module _ (o : Octets s) (fit : len ≤ length s) (k : known number ≡ true) (at : ℕ) (more : at < len)
-      (t : Record) (c : Cursor) (taken : takeOf s len number at ≡ Step.Taken t c) where
+  module _ (o : Octets s) (fit : len ≤ length s) (k : known cat ≡ true) (at : ℕ) (more : at < len)
+      (t : Record) (c : Cursor) (taken : takeOf s len cat at ≡ Step.Taken t c) where
     abbrev next : Next at t (c .at)
     next = rest-next o fit k at more t c taken
 

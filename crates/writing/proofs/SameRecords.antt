@@ -23,8 +23,8 @@ use Rattle.blocks.specs.declared.cursor.Step.{Step}
 use Rattle.blocks.specs.declared.cursor.Found.{Found}
 use Rattle.blocks.proofs.HeaderLaws.{Headed, header-good}
 use Rattle.blocks.proofs.WalkSteps.{table}
-use Rattle.blocks.proofs.BlockLaws.{category-number}
-use Rattle.blocks.proofs.MarksLaws.{flags-long, specs-marked}
+use Rattle.blocks.proofs.BlockLaws.{category-cat}
+use Rattle.blocks.proofs.MarksLaws.{flags-long, specification-marked}
 use Rattle.blocks.proofs.ReadSteps.{record-parts}
 use Rattle.blocks.proofs.MeaningLaws.{means-read}
 use Rattle.blocks.proofs.BoundaryLaws.{step-read}
@@ -58,7 +58,7 @@ module _ (s : List ℕ) (o : Octets s) (cat len at q : ℕ) (r : Rec) (a : One s
 
   there-category : there .category ≡ cat
   unfolding typedRec
-  there-category = category-number cat
+  there-category = category-cat cat
 
   there-small : there .marks < 4294967296
   unfolding typedRec
@@ -66,7 +66,7 @@ module _ (s : List ℕ) (o : Octets s) (cat len at q : ℕ) (r : Rec) (a : One s
       let c = category cat in
       let (p, e, e', z, y) = record-parts s len c at q r (a .is) in
       let few : length (flags (r .marks)) ≤ 32
-      = omega (arith, flags-long (r .marks), specs-marked s len (c .most - 1) at (r .marks) p o e .long, table cat (head .known) .few) in
+      = omega (arith, flags-long (r .marks), specification-marked s len (c .most - 1) at (r .marks) p o e .long, table cat (head .known) .few) in
       lt-of-lt-of-le (marks-below (flags (r .marks))) (pow-le-pow-right (zero-lt-suc 1) {j = 32} few)
 
   there-means : recOf s there ≡ r

@@ -11,8 +11,8 @@ use lib.ListN.{length, length-append}
 use Rattle.octets.specs.Choice.{pick}
 use Rattle.octets.specs.Numbers.{Octets, number}
 use Rattle.layouts.specs.Categories.{category, known}
-use Rattle.layouts.proofs.Answers.{and-yes}
-use Rattle.blocks.specs.Records.{layoutOf, marksRefusal, putRec}
+use Rattle.layouts.proofs.Parsed.{and-yes}
+use Rattle.blocks.specs.Records.{layoutOf, specificationRefusal, putRec}
 use Rattle.blocks.specs.Blocks.{Block, all, blockOf, putRecs, putBlock}
 use Rattle.blocks.proofs.GoodRecords.{itemsFit, good, allGood}
 use Rattle.blocks.specs.Walks.{answerOf, readOf}
@@ -42,7 +42,8 @@ module _ (s : List ℕ) (t : Record) (small : t .marks < 4294967296) where
       let some : suc (c .most - 1) ≡ c .most = omega (arith, table (t .category) (w .known) .some) in
       let r = recOf s t in
       let long : eqb (length (r .marks)) (suc (c .most - 1)) ≡ true = eq-eqb (length (r .marks)) (suc (c .most - 1)) (length-marks (c .most) (t .marks) ∙ sym some) in
-      let marks : eqb (marksRefusal c (r .marks)) 0 ≡ true = eq-eqb (marksRefusal c (r .marks)) 0 (marks-good s t (w .known) small (w .marks)) in
+      let marks : eqb (specificationRefusal c (r .marks)) 0 ≡ true
+      = eq-eqb (specificationRefusal c (r .marks)) 0 (marks-good s t (w .known) small (w .marks)) in
       let items : itemsFit (layoutOf c (r .marks)) (r .items) ≡ true
       = rw (layout-same s t (w .known) small (w .marks)) (items-fit s t (flags s t) (fields s t) (w .items)) in
       and-yes long (and-yes marks (and-yes items (w .present)))

@@ -11,7 +11,7 @@ use Rattle.layouts.specs.declared.form.Form.{Form}
 use Rattle.items.specs.Typed.{itemRefusal}
 use Rattle.items.specs.declared.item.Size.{Size}
 use Rattle.blocks.specs.Marks.{flagsOf}
-use Rattle.blocks.specs.Records.{formats, numberRefusal, present, putItems, putRec}
+use Rattle.blocks.specs.Records.{formats, marksRefusal, present, putItems, putRec}
 use Rattle.blocks.specs.Meaning.{itemIn, sevens, valuesOf, recOf}
 use Rattle.blocks.specs.declared.record.Record.{Record}
 
@@ -20,8 +20,8 @@ abbrev pub orElse : ℕ → ℕ → ℕ
 orElse n m = pick (eqb n 0) m n
 
 -- the record's type: the value of item 000, field 2, where it is marked; category 242 has none
-abbrev pub typeIn : ℕ → ℕ → ℕ → ℕ
-typeIn number marks kind = pick (eqb number 242) 0 (pick (getD (flagsOf 32 marks) 1 false) kind 0)
+abbrev pub markedType : ℕ → ℕ → ℕ → ℕ
+markedType cat marks kind = pick (eqb cat 242) 0 (pick (getD (flagsOf 32 marks) 1 false) kind 0)
 
 -- a specification octet of the low seven marks, and FX
 abbrev pub specificationOctet : ℕ → Bool → ℕ
@@ -55,7 +55,7 @@ module _ (s : List ℕ) (t : Record) where
 
   -- 6 for no mark, 5 for one of a spare field or of one past the category's last
   abbrev pub markedRefusal : ℕ
-  markedRefusal = numberRefusal (category (t .category)) (t .marks)
+  markedRefusal = marksRefusal (category (t .category)) (t .marks)
 
   -- 10: presence broken
   abbrev pub presenceRefusal : ℕ

@@ -20,7 +20,7 @@ has t f = marked (t .marks) (fieldFor (category (t .category) .fields) f)
 
 -- entries have one form in a category (`entriesForm`), and those of the other form are none of its items
 abbrev pub otherForm : ℕ → Form
-otherForm number = pick (eqb number 242) Form.Statistics Form.Versions
+otherForm cat = pick (eqb cat 242) Form.Statistics Form.Versions
 
 -- a record t with its source s, and a record u read from octets x
 pub record Same (s : List ℕ) (t : Record) (x : List ℕ) (u : Record) : Type 0 where

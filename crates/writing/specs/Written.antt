@@ -5,7 +5,7 @@ use lib.Dec.{leb, eqb}
 use Rattle.octets.specs.Choice.{pick}
 use Rattle.octets.specs.Numbers.{octets}
 use Rattle.octets.specs.Outcomes.{Outcome, no, puts}
-use Rattle.layouts.specs.Formats.{Answer, refused, got}
+use Rattle.layouts.specs.Formats.{Parsed, refused, got}
 use Rattle.layouts.specs.Categories.{Category, category}
 use Rattle.blocks.specs.Records.{Rec}
 use Rattle.blocks.specs.Blocks.{Block, wrong, all, blockOf, putBlock}
@@ -28,11 +28,11 @@ rewriteOf s = rewriteFrom (blockOf s)
 
 -- CAT and LEN
 abbrev pub headerOctets : ℕ → ℕ → List ℕ
-headerOctets number len = number ∷ octets 2 len
+headerOctets cat len = cat ∷ octets 2 len
 
 -- The records of a block up to the first that is refused, by offsets
 module _ (s : List ℕ) (len : ℕ) (c : Category) where
-  abbrev pub goodFrom : Answer ℕ Rec → (ℕ → List Rec) → List Rec
+  abbrev pub goodFrom : Parsed ℕ Rec → (ℕ → List Rec) → List Rec
   goodFrom (refused n) others = []
   goodFrom (got r q) others = r ∷ others q
 

@@ -20,11 +20,11 @@ use octets::output::Written;
 use octets::refusal;
 
 // Writes CAT and LEN.
-fn put_header(out: &mut [u8], number: u8, len: usize)
+fn put_header(out: &mut [u8], cat: u8, len: usize)
     requires { ⌜ (3 ≤ length (now out)) × (len < 65536) ⌝ }
-    ensures { λ _. ⌜ now (out .exit) ≡ laid (now (out .entry)) 0 (headerOctets number len) ⌝ }
+    ensures { λ _. ⌜ now (out .exit) ≡ laid (now (out .entry)) 0 (headerOctets cat len) ⌝ }
 {
-    out[0] = number;
+    out[0] = cat;
     octets::write2(out, 1, len as u16);
 }
 
@@ -49,14 +49,14 @@ pub fn write(record: Record, source: &[u8], out: &mut [u8]) -> Written
 }
 
 // How many octets the records of a block have in normal form, up to the first that is refused.
-fn normal_size(s: &[u8], len: usize, number: u8) -> usize
-    requires { ⌜ (3 ≤ len) × (len ≤ length (now s)) × (known number ≡ true) ⌝ }
-    ensures { λ r. ⌜ r ≡ length (putRecs (category number) (goodAt (now (s .entry)) len (category number) len 3)) ⌝ }
+fn normal_size(s: &[u8], len: usize, cat: u8) -> usize
+    requires { ⌜ (3 ≤ len) × (len ≤ length (now s)) × (known cat ≡ true) ⌝ }
+    ensures { λ r. ⌜ r ≡ length (putRecs (category cat) (goodAt (now (s .entry)) len (category cat) len 3)) ⌝ }
 {
     let mut total: usize = 0;
     let mut at: usize = 3;
     while at < len {
-        let step = take(s, len, number, at);
+        let step = take(s, len, cat, at);
         match step {
             Step::Refused(_, _) => {
                 return total;
@@ -79,14 +79,14 @@ fn normal_size(s: &[u8], len: usize, number: u8) -> usize
 }
 
 // Writes the records of a block in normal form behind the header, up to the first that is refused.
-fn put_records(out: &mut [u8], s: &[u8], len: usize, number: u8)
-    requires { ⌜ (3 ≤ len) × (len ≤ length (now s)) × (known number ≡ true) × (3 + length (putRecs (category number) (goodAt (now s) len (category number) len 3)) ≤ length (now out)) ⌝ }
-    ensures { λ _. ⌜ now (out .exit) ≡ laid (now (out .entry)) 3 (putRecs (category number) (goodAt (now (s .entry)) len (category number) len 3)) ⌝ }
+fn put_records(out: &mut [u8], s: &[u8], len: usize, cat: u8)
+    requires { ⌜ (3 ≤ len) × (len ≤ length (now s)) × (known cat ≡ true) × (3 + length (putRecs (category cat) (goodAt (now s) len (category cat) len 3)) ≤ length (now out)) ⌝ }
+    ensures { λ _. ⌜ now (out .exit) ≡ laid (now (out .entry)) 3 (putRecs (category cat) (goodAt (now (s .entry)) len (category cat) len 3)) ⌝ }
 {
     let mut p: usize = 3;
     let mut at: usize = 3;
     while at < len {
-        let step = take(s, len, number, at);
+        let step = take(s, len, cat, at);
         match step {
             Step::Refused(_, _) => {
                 return;
@@ -109,13 +109,13 @@ pub fn rewrite(s: &[u8], out: &mut [u8]) -> Written
     match reading {
         Reading::Refused(n, _) => Written::Refused(n),
         Reading::Accepted(len, _) => {
-            let number = s[0];
-            let total = normal_size(s, len, number);
+            let cat = s[0];
+            let total = normal_size(s, len, cat);
             if out.len() < total + 3 {
                 return Written::Refused(refusal::OUTPUT_TOO_SHORT);
             }
-            put_header(out, number, total + 3);
-            put_records(out, s, len, number);
+            put_header(out, cat, total + 3);
+            put_records(out, s, len, cat);
             Written::Octets(total + 3)
         }
     }

@@ -7,7 +7,7 @@ ghost use Rattle.octets.specs.Numbers.{laid};
 ghost use Rattle.layouts.specs.Categories.{known};
 ghost use Rattle.blocks.specs.Specification.{putMarks};
 ghost use Rattle.blocks.specs.Meaning.{itemIn, sevens};
-ghost use Rattle.writing.specs.Judged.{itemsRefusal, itemsSize, itemsOctets, flags, fields, typeIn, specificationOctet, recordRefusal, recordOctets, recordSize};
+ghost use Rattle.writing.specs.Judged.{itemsRefusal, itemsSize, itemsOctets, flags, fields, markedType, specificationOctet, recordRefusal, recordOctets, recordSize};
 use blocks::marks::is_marked;
 use blocks::marks::last_field;
 use blocks::marks::marks_refusal;
@@ -83,14 +83,14 @@ fn items_size(record: Record, source: &[u8]) -> Size
     requires { ⌜ known («record» .category) ≡ true ⌝ }
     ensures { λ r. ⌜ r ≡ itemsSize (now (source .entry)) «record» (flags (now (source .entry)) «record») (fields (now (source .entry)) «record») ⌝ }
 {
-    let number = record.category;
+    let cat = record.category;
     let marks = record.marks;
-    let last = last_field(number);
+    let last = last_field(cat);
     let mut total: usize = 0;
     let mut f: usize = 1;
     while f <= last {
         if is_marked(marks, f) {
-            let field = field_of(number, f);
+            let field = field_of(cat, f);
             let form = field.0;
             let item = item_in(record, form);
             let size = judge(item, field, source);
@@ -109,10 +109,10 @@ fn items_size(record: Record, source: &[u8]) -> Size
 }
 
 // The record's type, for presence: the value of item 000, where it is marked; category 242 has none.
-fn type_of(number: u8, marks: u32, message_type: u8) -> u8
-    ensures { λ r. ⌜ r ≡ typeIn number marks «message_type» ⌝ }
+fn type_of(cat: u8, marks: u32, message_type: u8) -> u8
+    ensures { λ r. ⌜ r ≡ markedType cat marks «message_type» ⌝ }
 {
-    if number == Cat242::NUMBER {
+    if cat == Cat242::CAT {
         return 0;
     }
     if is_marked(marks, 2) { message_type } else { 0 }
@@ -135,12 +135,12 @@ fn marks_octets(marks: u32) -> usize
 pub(crate) fn record_size(record: Record, source: &[u8]) -> Size
     ensures { λ r. ⌜ r ≡ recordSize (now (source .entry)) «record» ⌝ }
 {
-    let number = record.category;
+    let cat = record.category;
     let marks = record.marks;
-    if !is_known(number) {
+    if !is_known(cat) {
         return Size::Refused(refusal::UNKNOWN_CATEGORY);
     }
-    let m = marks_refusal(number, marks);
+    let m = marks_refusal(cat, marks);
     if m != refusal::ACCEPTED {
         return Size::Refused(m);
     }
@@ -148,7 +148,7 @@ pub(crate) fn record_size(record: Record, source: &[u8]) -> Size
     match items {
         Size::Refused(n) => Size::Refused(n),
         Size::Octets(n) => {
-            if is_present(number, type_of(number, marks, record.message_type), marks) {
+            if is_present(cat, type_of(cat, marks, record.message_type), marks) {
                 return Size::Octets(marks_octets(marks) + n);
             }
             Size::Refused(refusal::PRESENCE_BROKEN)
@@ -194,14 +194,14 @@ fn put_items(out: &mut [u8], at: usize, record: Record, source: &[u8]) -> usize
     requires { ⌜ (known («record» .category) ≡ true) × (itemsRefusal (now source) «record» (flags (now source) «record») (fields (now source) «record») ≡ 0) × (at + length (itemsOctets (now source) «record») ≤ length (now out)) ⌝ }
     ensures { λ r. ⌜ (now (out .exit) ≡ laid (now (out .entry)) at (itemsOctets (now (source .entry)) «record»)) × (r ≡ at + length (itemsOctets (now (source .entry)) «record»)) ⌝ }
 {
-    let number = record.category;
+    let cat = record.category;
     let marks = record.marks;
-    let last = last_field(number);
+    let last = last_field(cat);
     let mut p = at;
     let mut f: usize = 1;
     while f <= last {
         if is_marked(marks, f) {
-            let field = field_of(number, f);
+            let field = field_of(cat, f);
             let form = field.0;
             let item = item_in(record, form);
             p = put_item(out, p, item, field, source);

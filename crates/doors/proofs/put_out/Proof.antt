@@ -13,7 +13,7 @@ use Rattle.doors.proofs.put_out.Tie as tie
 
 module _ (l : List ℕ) (some : 1 ≤ length l) (w : Written) where
   put : (v : Written) → w ≡ v
-      → (listedWritten v .number ≡ listedWritten w .number) × (set l 0 (listedWritten v .length) ≡ laid l 0 (listedWritten w .length ∷ []))
+      → (listedWritten v .refusal ≡ listedWritten w .refusal) × (set l 0 (listedWritten v .length) ≡ laid l 0 (listedWritten w .length ∷ []))
   put v e = rw e (refl, sym (laid-one l 0 (listedWritten v .length) some))
 
 pub put-out-spec : {M : Type 1} → statement M

@@ -47,13 +47,13 @@ wear-entry-spec =
     (λ c. search needs)
     (λ c. search needs)
     (λ c. let m = c .before .before .before .before .before .before .before .before .before in
-    filled listedEntry (λ r. r .number) entryCells 4 _ _ (m .before .before .before .if1 .left) (m .found .given .1) (m .before .before .entry .ensures .1)
+    filled listedEntry (λ r. r .refusal) entryCells 4 _ _ (m .before .before .before .if1 .left) (m .found .given .1) (m .before .before .entry .ensures .1)
     (counter-cells _ _ (m .found .given .0 .0) (c .before .before .lay .ensures)))
     (λ c. search needs)
     (λ c. let m = c .before .before .before .before .before .before .before .before .before in
-    filled listedEntry (λ r. r .number) entryCells 4 _ _ (m .before .before .before .if1 .left) (m .found2 .given .1) (m .before .before .entry .ensures .1)
+    filled listedEntry (λ r. r .refusal) entryCells 4 _ _ (m .before .before .before .if1 .left) (m .found2 .given .1) (m .before .before .entry .ensures .1)
     (version-cells _ _ (m .found2 .given .0 .0) (c .before .before .lay2 .ensures)))
     (λ c. search needs)
     (λ c. let m = c .before .before .before .before .before .before in
-    filled listedEntry (λ r. r .number) entryCells 4 _ _ (m .before .before .before .if1 .left) (m .found3 .given .1) (m .before .before .entry .ensures .1)
+    filled listedEntry (λ r. r .refusal) entryCells 4 _ _ (m .before .before .before .if1 .left) (m .found3 .given .1) (m .before .before .entry .ensures .1)
     (c .before .before .lay3 .ensures)))

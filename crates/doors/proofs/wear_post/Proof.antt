@@ -10,13 +10,13 @@ use Rattle.doors.proofs.wear_post.Tie as tie
 returns : tie.Need-returns
 returns c =
     let a = c .before .before .before .before .before .args in
-    put-few _ _ _ (pagePosted (a .page .now) (a .s .now) (a .number)) (lt-ltb _ 1 (c .if1 .taken))
+    put-few _ _ _ (pagePosted (a .page .now) (a .s .now) (a .k)) (lt-ltb _ 1 (c .if1 .taken))
 
 returns-2 : tie.Need-returns-2
 returns-2 c =
     let w = c .before .before .before .before .before .before in
     let a = w .before .before .before .before .before .before .before .args in
-    put-all _ _ _ (pagePosted (a .page .now) (a .s .now) (a .number)) (le-ltb _ 1 (w .before .before .if1 .left)) _ refl
+    put-all _ _ _ (pagePosted (a .page .now) (a .s .now) (a .k)) (le-ltb _ 1 (w .before .before .if1 .left)) _ refl
     (w .posted-page .ensures .0) (w .posted-page .ensures .1) (c .before .before .put-out .ensures)
 
 pub wear-post-spec : {M : Type 1} → statement M

@@ -23,9 +23,9 @@ wear-read-spec =
     (λ c. search needs)
     (λ c. search needs)
     (λ c. let m = c .before .before .before .before .before .before in
-    filled listedReading (λ r. r .number) readCells 3 _ _ (m .before .before .before .if1 .left) (m .reading .given .1) (m .before .before .read .ensures .1)
+    filled listedReading (λ r. r .refusal) readCells 3 _ _ (m .before .before .before .if1 .left) (m .reading .given .1) (m .before .before .read .ensures .1)
     (c .before .before .lay .ensures))
     (λ c. search needs)
     (λ c. let m = c .before .before .before .before .before .before in
-    filled listedReading (λ r. r .number) readCells 3 _ _ (m .before .before .before .if1 .left) (m .reading2 .given .1) (m .before .before .read .ensures .1)
+    filled listedReading (λ r. r .refusal) readCells 3 _ _ (m .before .before .before .if1 .left) (m .reading2 .given .1) (m .before .before .read .ensures .1)
     (c .before .before .lay2 .ensures)))

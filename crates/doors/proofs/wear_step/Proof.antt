@@ -24,7 +24,7 @@ returns-2 c =
     let v = c .before .before .before .before .before .before .before .before in
     let i = v .before .before .before .before .before .before in
     let enough = i .before .if1 .left in
-    filled listedStep (λ r. r .number) stepCells (2 + cellCount) _ _ enough (v .before .before .before .before .step2 .given .1) (i .step .ensures .1)
+    filled listedStep (λ r. r .refusal) stepCells (2 + cellCount) _ _ enough (v .before .before .before .before .step2 .given .1) (i .step .ensures .1)
     (behind _ _ _ (omega (arith, enough)) (v .lay .ensures) (c .before .before .before .before .record-cells .ensures) (c .before .before .lay2 .ensures))
 
 pub wear-step-spec : {M : Type 1} → statement M
@@ -50,5 +50,5 @@ wear-step-spec =
     returns-2
     (λ c. search needs)
     (λ c. let m = c .before .before .before .before .before .before in
-    filled listedStep (λ r. r .number) stepCells (2 + cellCount) _ _ (m .before .before .before .if1 .left) (m .step3 .given .1) (m .before .before .step .ensures .1)
+    filled listedStep (λ r. r .refusal) stepCells (2 + cellCount) _ _ (m .before .before .before .if1 .left) (m .step3 .given .1) (m .before .before .step .ensures .1)
     (c .before .before .lay3 .ensures)))

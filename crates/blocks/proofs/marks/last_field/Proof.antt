@@ -13,5 +13,5 @@ last-field-spec =
     (λ c. search needs)
     (λ c. search needs)
     (λ c.
-    let t = table (c .before .args .number) (c .before .pre) in
+    let t = table (c .before .args .cat) (c .before .pre) in
     (omega arith, omega arith)))

@@ -1,4 +1,4 @@
--- `has_of_type` by the rows that the types tell apart. Assumes nothing.
+-- `has_of_type` by the needs that the types tell apart. Assumes nothing.
 use mathlib.Core.Path.{_≡_, ap}
 use mathlib.Core.Bool.{Bool, true, _&&_, not, and-true, and-assoc}
 use borrow.Author.Needs.{needs}
@@ -7,7 +7,7 @@ use Rattle.layouts.specs.Presence.{meets}
 use Rattle.blocks.proofs.presence.has_of_type.Statement.{statement}
 use Rattle.blocks.proofs.presence.has_of_type.Tie as tie
 
--- three tests, as rows ask them
+-- three tests, as needs ask them
 three : {a b c x y z : Bool} → a ≡ x → b ≡ y → c ≡ z → (a && b && c) ≡ (x && (y && (z && true)))
 three {x = x} {y} {z} p q r = rw (p, q, r, and-true z) (and-assoc x y z)
 

@@ -11,7 +11,7 @@ returns : tie.Need-returns
 returns c =
     let e = c .before .before .before in
     let z = e .before .before .before in
-    let t = table (z .args .number) (z .pre .2) in
+    let t = table (z .args .cat) (z .pre .2) in
     let w = spec-at _ _ _ _ _ t _ (e .before .most-of .ensures) _ (sym (c .before .end .given .1) ∙ e .specification-end .ensures .0)
     (λ j. e .before .before .shared-slice-known .given j .fits) in
     (rw (w .is), omega arith, omega arith, omega arith)
@@ -20,7 +20,7 @@ returns-2 : tie.Need-returns-2
 returns-2 c =
     let e = c .before .before in
     let z = e .before .before .before in
-    let t = table (z .args .number) (z .pre .2) in
+    let t = table (z .args .cat) (z .pre .2) in
     let w = spec-ended _ _ _ _ _ t _ (e .before .most-of .ensures) (End.Refused _) (sym (c .enum-told .given .1) ∙ e .specification-end .ensures .0) in
     (rw w, omega arith, omega arith, omega arith)
 

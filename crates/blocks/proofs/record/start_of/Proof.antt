@@ -1,7 +1,7 @@
 -- `start_of` looks at the form's place. Assumes nothing.
 use native.Mathlib.Omega.{arith}
 use borrow.Author.Needs.{needs}
-use Rattle.blocks.proofs.FormLaws.{number-few}
+use Rattle.blocks.proofs.FormLaws.{form-number-few}
 use Rattle.blocks.proofs.record.start_of.Statement.{statement}
 use Rattle.blocks.proofs.record.start_of.Tie as tie
 
@@ -10,6 +10,6 @@ start-of-spec =
     tie.close
     (tie.spec
     (λ c κs. search needs)
-    (λ c. omega (arith, c .form-number .ensures, number-few (c .before .args .form)))
-    (λ c. omega (arith, c .form-number .ensures, number-few (c .before .args .form)))
+    (λ c. omega (arith, c .form-number .ensures, form-number-few (c .before .args .form)))
+    (λ c. omega (arith, c .form-number .ensures, form-number-few (c .before .args .form)))
     (λ c. rw (c .form-number .ensures)))

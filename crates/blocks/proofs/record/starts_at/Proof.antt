@@ -4,17 +4,17 @@ use native.Mathlib.Omega.{arith}
 use lib.ListN.{length}
 use borrow.Author.Needs.{needs}
 use Rattle.layouts.specs.Categories.{category}
-use Rattle.blocks.proofs.FormLaws.{number-few, forms}
+use Rattle.blocks.proofs.FormLaws.{form-number-few, forms}
 use Rattle.blocks.proofs.RecordStarts.{Walking, filled-none, filled-passed, walking-on}
 use Rattle.blocks.proofs.TypedOctets.{made}
 use Rattle.blocks.proofs.record.starts_at.Statement.{statement}
 use Rattle.blocks.proofs.record.starts_at.Tie as tie
 
 abbrev Inv-loop : tie.InvT-loop
-Inv-loop s len number at from marks last none items₀ p₀ f₀ items p f = Walking s len (category number) marks from items p f
+Inv-loop s len cat at from marks last none items₀ p₀ f₀ items p f = Walking s len (category cat) marks from items p f
 
 abbrev μ-loop : tie.MeasureT-loop
-μ-loop s len number at from marks last none items₀ p₀ f₀ items p f = last + 1 - f
+μ-loop s len cat at from marks last none items₀ p₀ f₀ items p f = last + 1 - f
 
 loop-holds : tie.Need-loop-holds Inv-loop μ-loop
 loop-holds c =
@@ -33,9 +33,9 @@ loop-again c =
     let l = x .before .before in
     let last = l .before .before in
     let z = last .before .before .before .before in
-    let more : l .loop .f ≤ length (category (z .args .number) .fields) = omega (arith, x .before .loop-test .taken, last .last-field .ensures .0) in
+    let more : l .loop .f ≤ length (category (z .args .cat) .fields) = omega (arith, x .before .loop-test .taken, last .last-field .ensures .0) in
     walking-on _ _ _ _ _ _ _ _
-    (filled-passed _ _ _ _ _ _ _ _ (l .loop .inv .0) more (forms (z .args .number) (z .pre .2)) (l .loop .inv .1 (omega arith)) (z .pre .1)
+    (filled-passed _ _ _ _ _ _ _ _ (l .loop .inv .0) more (forms (z .args .cat) (z .pre .2)) (l .loop .inv .1 (omega arith)) (z .pre .1)
     (x .field-of .result) (x .field-of .ensures) _ (n .form-number .ensures) _ (q .item-end .ensures .0) (q .item-end .ensures .1))
     (omega arith) _ (c .next-field2 .ensures)
 
@@ -60,8 +60,8 @@ starts-at-spec =
     loop-holds
     (λ c κs. search needs)
     (λ c κs. search needs)
-    (λ c. omega (arith, c .form-number .ensures, number-few (c .before .field-of .result .0)))
-    (λ c. omega (arith, c .form-number .ensures, number-few (c .before .field-of .result .0)))
+    (λ c. omega (arith, c .form-number .ensures, form-number-few (c .before .field-of .result .0)))
+    (λ c. omega (arith, c .form-number .ensures, form-number-few (c .before .field-of .result .0)))
     item-end-requires
     (λ c. search needs)
     (λ c κs. search needs)

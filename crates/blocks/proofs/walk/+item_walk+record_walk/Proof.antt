@@ -91,7 +91,7 @@ passed : (t : ℕ) (c : item-walk-lts.After-known-told2 (item-walk-calls t) (ite
     → let n = c .before .before .before .before .before .before in
     let z = n .before .before in
     At (c .before .end2 .given .0 .0)
-    ≡ endOf (itemAt (z .args .s .now) (z .args .len) (format (layout (formAt (category (z .args .number)) (n .next-field .result)))) (z .args .at))
+    ≡ endOf (itemAt (z .args .s .now) (z .args .len) (format (layout (formAt (category (z .args .cat)) (n .next-field .result)))) (z .args .at))
 passed t c =
     let p = c .before .before .before in
     sym (c .before .end2 .given .1) ∙ (rw (p .before .field-of .ensures) at (p .pass .ensures .0))
@@ -99,10 +99,10 @@ passed t c =
 -- what `record-walk` knows where a specification ends
 spec : (t : ℕ) (c : record-walk-lts.After-known-told2 (record-walk-calls t) (record-walk-at t) record-walk.Post)
     → let z = c .before .before .before .before .before .before .before .before in
-    steps.Spec (z .args .s .now) (z .args .len) (category (z .args .number)) (z .args .at) (c .before .end2 .given .0 .0)
+    steps.Spec (z .args .s .now) (z .args .len) (category (z .args .cat)) (z .args .at) (c .before .end2 .given .0 .0)
 spec t c =
     let z = c .before .before .before .before .before .before .before .before in
-    steps.spec-at _ _ _ _ _ (steps.table (z .args .number) (z .pre .1 .2)) _ (c .before .before .before .before .most-of .ensures) _
+    steps.spec-at _ _ _ _ _ (steps.table (z .args .cat) (z .pre .1 .2)) _ (c .before .before .before .before .most-of .ensures) _
     (sym (c .before .end2 .given .1) ∙ c .before .before .before .specification-end .ensures .0) (λ j. c .before .before .before .before .before .before .before .shared-slice-known .given j .fits)
 
 pub +item-walk+record-walk-spec : {M : Type 1} → statement M
@@ -116,12 +116,12 @@ pub +item-walk+record-walk-spec : {M : Type 1} → statement M
     (λ c.
     let n = c .before .before .before .before in
     let z = n .before .before in
-    steps.rest-present _ _ _ _ _ _ _ _ _ _ _ (omega arith) (n .next-field .ensures) (c .before .before .before .if1 .taken) _ (steps.table (z .args .number) (z .pre .1 .2)) (cc)
+    steps.rest-present _ _ _ _ _ _ _ _ _ _ _ (omega arith) (n .next-field .ensures) (c .before .before .before .if1 .taken) _ (steps.table (z .args .cat) (z .pre .1 .2)) (cc)
     _ (c .record-walk .ensures))
     (λ c.
     let n = c .before .before .before in
     let z = n .before .before in
-    steps.rest-absent _ _ _ _ _ _ _ _ _ _ _ (omega arith) (n .next-field .ensures) (c .before .before .if1 .taken) _ (steps.table (z .args .number) (z .pre .1 .2)) (cc))
+    steps.rest-absent _ _ _ _ _ _ _ _ _ _ _ (omega arith) (n .next-field .ensures) (c .before .before .if1 .taken) _ (steps.table (z .args .cat) (z .pre .1 .2)) (cc))
     (λ c κs. search needs)
     (λ c κs. (omega arith, omega arith, rw (c .field-of .ensures)))
     (λ c. search needs)
@@ -158,7 +158,7 @@ pub +item-walk+record-walk-spec : {M : Type 1} → statement M
     (λ c κs. search needs)
     (λ c.
     let z = c .before .before .before .before .before .before .before .before .before .before .before in
-    steps.record-unmarked _ _ _ _ _ (steps.table (z .args .number) (z .pre .1 .2)) _ (spec t (c .before .before .before)) _ _ (c .before .before .before .before .before .before .before .before .if2 .left) (omega arith)
+    steps.record-unmarked _ _ _ _ _ (steps.table (z .args .cat) (z .pre .1 .2)) _ (spec t (c .before .before .before)) _ _ (c .before .before .before .before .before .before .before .before .if2 .left) (omega arith)
     _ (c .before .before .marks-at .ensures) _ (c .before .marks-refusal .ensures) (c .if3 .taken))
     (λ c. search needs)
     (λ c κs.
@@ -166,9 +166,9 @@ pub +item-walk+record-walk-spec : {M : Type 1} → statement M
     (omega arith, (omega arith, omega arith, search needs, omega arith, omega arith, omega arith, sym (c .before .marks-refusal .ensures) ∙ c .if3 .left)))
     (λ c.
     let z = c .before .before .before .before .before .before .before .before in
-    steps.record-refused _ _ _ _ _ (steps.table (z .args .number) (z .pre .1 .2)) _ (c .before .before .before .before .most-of .ensures) _ _ (c .before .before .before .before .before .if2 .left) (omega arith)
+    steps.record-refused _ _ _ _ _ (steps.table (z .args .cat) (z .pre .1 .2)) _ (c .before .before .before .before .most-of .ensures) _ _ (c .before .before .before .before .before .if2 .left) (omega arith)
     _ (sym (c .before .end .given .1) ∙ c .before .before .before .specification-end .ensures .0))
     (λ c.
     let z = c .before .before .before .before .before .before .before .before .before .before .before .before in
-    steps.record-items _ _ _ _ _ (steps.table (z .args .number) (z .pre .1 .2)) _ (spec t (c .before .before .before .before)) _ _ (c .before .before .before .before .before .before .before .before .before .if2 .left) (omega arith)
+    steps.record-items _ _ _ _ _ (steps.table (z .args .cat) (z .pre .1 .2)) _ (spec t (c .before .before .before .before)) _ _ (c .before .before .before .before .before .before .before .before .before .if2 .left) (omega arith)
     _ (c .before .before .before .marks-at .ensures) _ (c .before .before .marks-refusal .ensures) (c .before .if3 .left) _ (c .item-walk .ensures)))

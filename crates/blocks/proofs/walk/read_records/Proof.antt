@@ -10,10 +10,10 @@ use Rattle.blocks.proofs.walk.read_records.Statement.{statement}
 use Rattle.blocks.proofs.walk.read_records.Tie as tie
 
 abbrev Inv-loop : tie.InvT-loop
-Inv-loop s len number at₀ count₀ at count = steps.Passed s len (category number) at count
+Inv-loop s len cat at₀ count₀ at count = steps.Passed s len (category cat) at count
 
 abbrev μ-loop : tie.MeasureT-loop
-μ-loop s len number at₀ count₀ at count = len - at
+μ-loop s len cat at₀ count₀ at count = len - at
 
 pub read-records-spec : {M : Type 1} → statement M
 read-records-spec =

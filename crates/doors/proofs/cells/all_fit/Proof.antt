@@ -65,17 +65,17 @@ module _ (cs : List ℕ) where
         step ∙ rw (eq-eqb (k % 2) 1 h, ← is)
 
 abbrev Inv-loop : tie.InvT-loop
-Inv-loop cells number marks left₀ f₀ left f =
-    (f ≤ 32) × (allFit cells (flagsOf 32 marks) (category number .fields) ≡ behind cells (category number) f left)
+Inv-loop cells cat marks left₀ f₀ left f =
+    (f ≤ 32) × (allFit cells (flagsOf 32 marks) (category cat .fields) ≡ behind cells (category cat) f left)
 
 abbrev μ-loop : tie.MeasureT-loop
-μ-loop cells number marks left₀ f₀ left f = 32 - f
+μ-loop cells cat marks left₀ f₀ left f = 32 - f
 
 returns : tie.Need-returns Inv-loop μ-loop
 returns c =
     let l = c .before .before in
     let a = l .before .before .args in
-    sym (l .loop .inv .1 ∙ rw (c .if1 .taken) (none-left (a .cells .now) (32 - l .loop .f) (drop (l .loop .f) (category (a .number) .fields))))
+    sym (l .loop .inv .1 ∙ rw (c .if1 .taken) (none-left (a .cells .now) (32 - l .loop .f) (drop (l .loop .f) (category (a .cat) .fields))))
 
 returns-2 : tie.Need-returns-2 Inv-loop μ-loop
 returns-2 c =
@@ -85,21 +85,21 @@ returns-2 c =
     let a = l .before .before .before .args in
     sym
     (l .before .loop .inv .1
-    ∙ marked (a .cells .now) (category (a .number)) _ _ (l .loop-test .taken) _ (t .if2 .taken) (p .field-of .ensures) (c .before .item-fits .ensures)
+    ∙ marked (a .cells .now) (category (a .cat)) _ _ (l .loop-test .taken) _ (t .if2 .taken) (p .field-of .ensures) (c .before .item-fits .ensures)
     ∙ rw (not-true (c .before .item-fits .result) (c .if3 .taken)))
 
 loop-again : tie.Need-loop-again Inv-loop μ-loop
 loop-again c =
     let l = c .before .before in
     let a = l .before .before .before .args in
-    let cat = category (a .number) in
+    let whole = category (a .cat) in
     let inside = l .loop-test .taken in (
       omega arith,
       l .before .loop .inv .1
           ∙ ⊎-elim
-          (λ w. marked (a .cells .now) cat _ _ inside _ (w .0 .taken) (w .1 .ensures) (w .2 .ensures)
+          (λ w. marked (a .cells .now) whole _ _ inside _ (w .0 .taken) (w .1 .ensures) (w .2 .ensures)
           ∙ rw (not-false (w .2 .result) (w .3 .left)))
-          (λ w. unmarked (a .cells .now) cat _ _ inside (w .left))
+          (λ w. unmarked (a .cells .now) whole _ _ inside (w .left))
           (c .if2 .came),
     )
 

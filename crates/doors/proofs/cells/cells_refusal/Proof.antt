@@ -11,8 +11,8 @@ use Rattle.octets.specs.Choice.{pick}
 use Rattle.octets.specs.Refusals.{unknownCategory, spareMarked, noneMarked, outOfRange}
 use Rattle.layouts.specs.Categories.{known, category}
 use Rattle.blocks.specs.Marks.{flagsOf}
-use Rattle.blocks.specs.Records.{marksSpare, numberRefusal}
-use Rattle.blocks.proofs.MarksLaws.{number-refusal}
+use Rattle.blocks.specs.Records.{marksSpare, marksRefusal}
+use Rattle.blocks.proofs.MarksLaws.{marks-refused}
 use Rattle.doors.specs.Cells.{cell, allFit, cellsRefusal}
 use Rattle.doors.proofs.cells.cells_refusal.Statement.{statement}
 use Rattle.doors.proofs.cells.cells_refusal.Tie as tie
@@ -39,26 +39,26 @@ module _ (cs : List ℕ) where
   wide-category h = rw (ne-eqb (cell cs 0) 23 (λ e. omega arith), ne-eqb (cell cs 0) 65 (λ e. omega arith), ne-eqb (cell cs 0) 242 (λ e. omega arith))
 
   module _ {n : ℕ} (is : n ≡ cell cs 0 % 2 ^ 8) (small : cell cs 0 ≤ 255) where
-    number : cell cs 0 ≡ n
-    number = omega arith
+    cat : cell cs 0 ≡ n
+    cat = omega arith
 
     unknown : known n ≡ false → unknownCategory ≡ cellsRefusal cs
     unfolding cellsRefusal
-    unknown e = rw (number, e)
+    unknown e = rw (cat, e)
 
     module _ (kn : known n ≡ true) where
       wide-marks : 4294967295 < cell cs 1 → spareMarked ≡ cellsRefusal cs
       unfolding cellsRefusal
-      wide-marks h = rw (number, kn, ne-eqb (cell cs 1) 0 (λ e. omega arith), le-leb (2 ^ 32) (cell cs 1) (omega arith))
+      wide-marks h = rw (cat, kn, ne-eqb (cell cs 1) 0 (λ e. omega arith), le-leb (2 ^ 32) (cell cs 1) (omega arith))
 
-      module _ {m r : ℕ} (has : m ≡ cell cs 1 % 2 ^ 32) (low : cell cs 1 ≤ 4294967295) (judged : r ≡ numberRefusal (category n) m) where
+      module _ {m r : ℕ} (has : m ≡ cell cs 1 % 2 ^ 32) (low : cell cs 1 ≤ 4294967295) (judged : r ≡ marksRefusal (category n) m) where
         marks : cell cs 1 ≡ m
         marks = omega arith
 
         by-marks : cellsRefusal cs ≡ pick (eqb r 0) (pick (allFit cs (flagsOf 32 m) (category n .fields)) 0 outOfRange) r
         unfolding cellsRefusal
         by-marks =
-            rw (judged, number-refusal (category n) m (omega arith), number, kn, marks, lt-leb (2 ^ 32) m (omega arith))
+            rw (judged, marks-refused (category n) m (omega arith), cat, kn, marks, lt-leb (2 ^ 32) m (omega arith))
             (tests (eqb m 0) (marksSpare (flagsOf 32 m) (category n .fields)) (pick (allFit cs (flagsOf 32 m) (category n .fields)) 0 outOfRange))
 
 abbrev calls : lts.Claims

@@ -10,14 +10,14 @@ use Rattle.feed.proofs.block.post_block.Statement.{statement}
 use Rattle.feed.proofs.block.post_block.Tie as tie
 
 abbrev Inv-loop : tie.InvT-loop
-Inv-loop cells₀ s len number after₀ at₀ cells after at = steps.Posting s len cells₀ after₀ cells after at
+Inv-loop cells₀ s len cat after₀ at₀ cells after at = steps.Posting s len cells₀ after₀ cells after at
 
 abbrev μ-loop : tie.MeasureT-loop
-μ-loop cells₀ s len number after₀ at₀ cells after at = len - at
+μ-loop cells₀ s len cat after₀ at₀ cells after at = len - at
 
 -- there is a first octet
-shared-slice-read-number : tie.Need-shared-slice-read-number Inv-loop μ-loop
-shared-slice-read-number c =
+shared-slice-read-cat : tie.Need-shared-slice-read-cat Inv-loop μ-loop
+shared-slice-read-cat c =
     let g = head _ _ _ (λ j. c .shared-slice-known2 .given j .fits) (c .before .before .pre .1 .1) in
     omega (arith, g .least, g .fits)
 
@@ -105,7 +105,7 @@ pub post-block-spec : {M : Type 1} → statement M
 post-block-spec =
     tie.close
     (tie.spec Inv-loop μ-loop
-    shared-slice-read-number
+    shared-slice-read-cat
     (λ c κs. search needs)
     returns
     loop-holds

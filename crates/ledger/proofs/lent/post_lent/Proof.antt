@@ -46,7 +46,7 @@ use Rattle.ledger.specs.declared.Ledger.{Ledger}
 use Rattle.ledger.proofs.Answer as answers
 use Rattle.ledger.proofs.Answer.Laws as answer-laws
 use Rattle.ledger.proofs.Ledger as ledgers
-use Rattle.ledger.proofs.LentLaws.{stored, Fits, answer-is, number-fits, ledger-fits, ledger-typed, answer-typed, ledger-makes}
+use Rattle.ledger.proofs.LentLaws.{stored, Fits, answer-is, refusal-fits, ledger-fits, ledger-typed, answer-typed, ledger-makes}
 use Rattle.ledger.proofs.LentLaws.{Code, Borrow, opens-ledger, closes-ledger}
 use Rattle.ledger.proofs.post.post as callee
 use Rattle.ledger.proofs.post.post.Symbol as callee-def
@@ -109,11 +109,11 @@ module _ {M : Type 1} (𝓤 : URA M) (H : Heap 𝓤) (A : Atoms 𝓤) (W : Given
   left l′ = ‵ (fobs γ (Code l′)) ∷ ‵ (Borrow κ b o γ) ∷ ‵ (flft κ q) ∷ token ∷ ‵ Slice ∷ []
 
   -- the last step: the contract, from what `post` ensures
-  exits : (r : Answer) → r ≡ postOf (l .cells) (s .now) k → r .number < 2 ^ 8 → ent 𝓤 (⋆ 𝓤 H A (left (r .ledger))) (Post (vint w8 (r .number)))
+  exits : (r : Answer) → r ≡ postOf (l .cells) (s .now) k → r .refusal < 2 ^ 8 → ent 𝓤 (⋆ 𝓤 H A (left (r .ledger))) (Post (vint w8 (r .refusal)))
   exits r e fits =
       qed W (left (r .ledger)) ∵
       suffices ! _ (ends-at 𝓤 H A this.ended stayed (this.clauses 𝓤 H A at-mem run) W bound
-      (vint w8 (r .number)) (r .number) (r .ledger, (tt, (tt, tt))) (tt, (tt, (tt, tt)))) $
+      (vint w8 (r .refusal)) (r .refusal) (r .ledger, (tt, (tt, tt))) (tt, (tt, (tt, tt)))) $
       -- the fact that the contract states
       says ! e $
       -- the tokens
@@ -123,7 +123,7 @@ module _ {M : Type 1} (𝓤 : URA M) (H : Heap 𝓤) (A : Atoms 𝓤) (W : Given
       nothing ! $ owned ! usize (Is usize) (uint-makes 𝓤 H A W w64) k _ (refl, k-fits) $ fjoin ! $
       move ! (2 ∷ 0 ∷ []) $ fjoin ! $ move ! (1 ∷ 0 ∷ []) $ fjoin ! $
       -- the result
-      owned ! u8 (Is u8) (uint-makes 𝓤 H A W w8) (r .number) _ (refl, fits) $ move ! (1 ∷ 0 ∷ []) $ done !
+      owned ! u8 (Is u8) (uint-makes 𝓤 H A W w8) (r .refusal) _ (refl, fits) $ move ! (1 ∷ 0 ∷ []) $ done !
 
   -- what the triple of `post` binds outside; what it asks is had of the token and the slice reference
   abbrev to-callee : Callee 𝓤 H A at-mem run .Ghost
@@ -172,9 +172,9 @@ module _ {M : Type 1} (𝓤 : URA M) (H : Heap 𝓤) (A : Atoms 𝓤) (W : Given
         -- *_1 = _4.ledger
         assigns ! (of-opd ! (load ! (from ! (fld ! refl (stop !))) (look-in ! 8 (sub ! 1 refl (whole !))))) (from ! (hop ! (look ! 14 refl) (stop !)))
         (store-raw ! 2 refl (ledger-typed 𝓤 H A W (r .ledger) (ledger-fits r w r-is) .0)) $
-        -- _0 = _4.number
+        -- _0 = _4.refusal
         assigns ! (of-opd ! (load ! (from ! (fld ! refl (stop !))) (look-in ! 8 (sub ! 0 refl (whole !))))) (from ! (stop !))
-        (init ! 16 refl (tt, record { fits = number-fits r w r-is })) $
+        (init ! 16 refl (tt, record { fits = refusal-fits r w r-is })) $
         -- the borrow is closed at the new ledger
         move ! (2 ∷ 3 ∷ 4 ∷ 5 ∷ []) $ closes-ledger ! tt (r .ledger) (ledger-fits r w r-is) b o $
         -- [obs; the borrow; its token; token; the slice; _5; …; _4; …; _3; …; _2; …; _1; …; _0; …]: the locals go
@@ -182,7 +182,7 @@ module _ {M : Type 1} (𝓤 : URA M) (H : Heap 𝓤) (A : Atoms 𝓤) (W : Given
         forget ! 5 refl $ forget ! 7 refl $ forget ! 9 refl $ forget ! 11 refl $ forget ! 13 refl $ forget ! 15 refl $
         move ! (15 ∷ 16 ∷ []) $ free1 ! $ move ! (13 ∷ 14 ∷ []) $ free1 ! $ move ! (11 ∷ 12 ∷ []) $ free1 ! $
         move ! (9 ∷ 10 ∷ []) $ free1 ! $ move ! (7 ∷ 8 ∷ []) $ free1 ! $ move ! (5 ∷ 6 ∷ []) $ free1 ! $ free0 ! $
-        keep ! (0 ∷ 1 ∷ 2 ∷ 3 ∷ 4 ∷ []) $ by ! (exits r e (number-fits r w r-is)))))))))))))
+        keep ! (0 ∷ 1 ∷ 2 ∷ 3 ∷ 4 ∷ []) $ by ! (exits r e (refusal-fits r w r-is)))))))))))))
 
 -- the walk, at any arguments
 module _ {M : Type 1} (𝓤 : URA M) (H : Heap 𝓤) (A : Atoms 𝓤) (W : Given 𝓤 H A) (at-mem : Memory → SProp 𝓤) (run : Routine → Fun 𝓤) where

@@ -18,9 +18,9 @@ module _ (n c d : ℕ) (e : d ≡ hexValue c) where
   unfolding withDigit
   too-many l m = rw (← e, le-ltb 9 d l, lt-ltb 18446744073709551615 (n * 10 + d) (omega arith))
 
-  number : d ≤ 9 → n ≤ (18446744073709551615 - d) / 10 → Number.Value (n * 10 + d) ≡ withDigit n c
+  digit-fits : d ≤ 9 → n ≤ (18446744073709551615 - d) / 10 → Number.Value (n * 10 + d) ≡ withDigit n c
   unfolding withDigit
-  number l m = rw (← e, le-ltb 9 d l, le-ltb 18446744073709551615 (n * 10 + d) (omega arith))
+  digit-fits l m = rw (← e, le-ltb 9 d l, le-ltb 18446744073709551615 (n * 10 + d) (omega arith))
 
 hex-value-requires : tie.Need-hex-value-requires
 hex-value-requires c κs = search needs
@@ -44,7 +44,7 @@ add-t7 : tie.Need-add-t7
 add-t7 c = search needs
 
 returns-3 : tie.Need-returns-3
-returns-3 c = number _ _ _ (c .before .before .hex-value .ensures) (search needs) (search needs)
+returns-3 c = digit-fits _ _ _ (c .before .before .hex-value .ensures) (search needs) (search needs)
 
 pub with-digit-spec : {M : Type 1} → statement M
 with-digit-spec = tie.close (tie.spec hex-value-requires cast-d returns sub-if2 returns-2 mul-t6 add-t7 returns-3)

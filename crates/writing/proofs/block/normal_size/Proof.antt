@@ -16,10 +16,10 @@ use Rattle.blocks.proofs.cursor.take.Reads as take-reads
 use Rattle.writing.proofs.record.record_size.Reads as record-size-reads
 
 abbrev Inv-loop : tie.InvT-loop
-Inv-loop s len number total₀ at₀ total at = steps.Counted s len number total at
+Inv-loop s len cat total₀ at₀ total at = steps.Counted s len cat total at
 
 abbrev μ-loop : tie.MeasureT-loop
-μ-loop s len number total₀ at₀ total at = len - at
+μ-loop s len cat total₀ at₀ total at = len - at
 
 -- a record more
 more : (c : lts.After-known-told2 (take-reads.Asked, take-reads.Learnt, record-size-reads.Asked, record-size-reads.Learnt) reads.Pre reads.Post Inv-loop μ-loop)
@@ -28,8 +28,8 @@ more : (c : lts.After-known-told2 (take-reads.Asked, take-reads.Learnt, record-s
     let a = l .before .before .args in
     let q = r .before .before .step .given .0 .1 .0 .at in
     let n = c .before .size .given .0 .0 in
-    (l .loop .at < q) × (l .loop .total + n ≤ length (steps.rest (a .s .now) (a .len) (a .number) 3))
-    × steps.Counted (a .s .now) (a .len) (a .number) (l .loop .total + n) q
+    (l .loop .at < q) × (l .loop .total + n ≤ length (steps.rest (a .s .now) (a .len) (a .cat) 3))
+    × steps.Counted (a .s .now) (a .len) (a .cat) (l .loop .total + n) q
 more c =
     let r = c .before .before .before in
     let t = r .before .before .before .before in
@@ -62,7 +62,7 @@ add-total c =
     omega (
       arith,
       more c .1,
-      good-short (z .args .s .now) (z .args .len) (category (z .args .number)) (λ j. l .before .shared-slice-known .given j .fits) (z .pre .1) (z .args .len) 3 (z .pre .0),
+      good-short (z .args .s .now) (z .args .len) (category (z .args .cat)) (λ j. l .before .shared-slice-known .given j .fits) (z .pre .1) (z .args .len) 3 (z .pre .0),
       z .fits .len,
     )
 

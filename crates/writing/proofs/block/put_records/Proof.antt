@@ -13,10 +13,10 @@ use Rattle.blocks.proofs.cursor.take.Reads as take-reads
 use Rattle.writing.proofs.record.put_record.Reads as put-record-reads
 
 abbrev Inv-loop : tie.InvT-loop
-Inv-loop out₀ s len number p₀ at₀ out p at = steps.Put s len number out₀ out p at
+Inv-loop out₀ s len cat p₀ at₀ out p at = steps.Put s len cat out₀ out p at
 
 abbrev μ-loop : tie.MeasureT-loop
-μ-loop out₀ s len number p₀ at₀ out p at = len - at
+μ-loop out₀ s len cat p₀ at₀ out p at = len - at
 
 -- the first record that is refused ends them
 returns : tie.Need-returns Inv-loop μ-loop
@@ -39,7 +39,7 @@ more : (c : lts.After-slice-known2 (take-reads.Asked, take-reads.Learnt, put-rec
     let l = u .before .before .before .before .before .before .before in
     let a = l .before .before .before .args in
     let q = u .before .before .before .step .given .0 .1 .0 .at in
-    (l .loop .at < q) × steps.Put (a .s .now) (a .len) (a .number) (a .out .now) (u .put-record .last .0) (u .put-record .result) q
+    (l .loop .at < q) × steps.Put (a .s .now) (a .len) (a .cat) (a .out .now) (u .put-record .last .0) (u .put-record .result) q
 more c =
     let u = c .before .before in
     let t = u .before .before .before .before .before in

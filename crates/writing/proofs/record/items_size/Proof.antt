@@ -8,10 +8,10 @@ use Rattle.writing.proofs.record.items_size.Statement.{statement}
 use Rattle.writing.proofs.record.items_size.Tie as tie
 
 abbrev Inv-loop : tie.InvT-loop
-Inv-loop «record» source number marks last total₀ f₀ total f = CountedFields source «record» total f
+Inv-loop «record» source cat marks last total₀ f₀ total f = CountedFields source «record» total f
 
 abbrev μ-loop : tie.MeasureT-loop
-μ-loop «record» source number marks last total₀ f₀ total f = 15 - f
+μ-loop «record» source cat marks last total₀ f₀ total f = 15 - f
 
 judge-requires : tie.Need-judge-requires Inv-loop μ-loop
 judge-requires c κs = field-here _ _ _ _ (c .before .field-of .ensures) (c .item-in .ensures)

@@ -7,10 +7,10 @@ use Rattle.writing.proofs.record.put_items.Statement.{statement}
 use Rattle.writing.proofs.record.put_items.Tie as tie
 
 abbrev Inv-loop : tie.InvT-loop
-Inv-loop out₀ at «record» source number marks last p₀ f₀ out p f = LaidFields source «record» out₀ at out p f
+Inv-loop out₀ at «record» source cat marks last p₀ f₀ out p f = LaidFields source «record» out₀ at out p f
 
 abbrev μ-loop : tie.MeasureT-loop
-μ-loop out₀ at «record» source number marks last p₀ f₀ out p f = 15 - f
+μ-loop out₀ at «record» source cat marks last p₀ f₀ out p f = 15 - f
 
 put-item-requires : tie.Need-put-item-requires Inv-loop μ-loop
 put-item-requires c κs =

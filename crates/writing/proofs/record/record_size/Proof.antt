@@ -8,11 +8,11 @@ use borrow.Author.Needs.{needs}
 use borrow.Author.Tests.{not-true, not-false}
 use Rattle.layouts.specs.Categories.{known}
 use Rattle.items.specs.declared.item.Size.{Size}
-use Rattle.layouts.specs.Presence.{rowsOf, meets}
+use Rattle.layouts.specs.Presence.{needsOf, meets}
 use Rattle.blocks.specs.Marks.{flagsOf}
 use Rattle.blocks.specs.Meaning.{sevens}
 use Rattle.blocks.specs.declared.record.Record.{Record}
-use Rattle.writing.specs.Judged.{typeIn, itemsSize, flags, fields, markedRefusal}
+use Rattle.writing.specs.Judged.{markedType, itemsSize, flags, fields, markedRefusal}
 use Rattle.writing.proofs.MarksWritten.{length-marks, marks-few}
 use Rattle.writing.proofs.OctetsWritten.{marks-short}
 use Rattle.writing.proofs.RecordWritten.{size-few, size-unknown, size-marks, size-items, size-absent, size-octets}
@@ -77,10 +77,10 @@ module _ (p : lts.After-is-present calls reads.Pre reads.Post) where
   items-good = sym (p .before .before .before .items2 .given .1) ∙ p .before .before .before .before .before .items-size .ensures
 
   tested : p .is-present .result
-      ≡ meets (rowsOf (given marked .category)) (typeIn (given marked .category) (given marked .marks) (given marked .«message_type»)) (flagsOf 32 (given marked .marks))
+      ≡ meets (needsOf (given marked .category)) (markedType (given marked .category) (given marked .marks) (given marked .«message_type»)) (flagsOf 32 (given marked .marks))
   tested =
       p .is-present .ensures
-      ∙ ap (λ (k : ℕ). meets (rowsOf (given marked .category)) k (flagsOf 32 (given marked .marks))) (p .before .type-of .ensures)
+      ∙ ap (λ (k : ℕ). meets (needsOf (given marked .category)) k (flagsOf 32 (given marked .marks))) (p .before .type-of .ensures)
 
 pub record-size-spec : {M : Type 1} → statement M
 record-size-spec =
