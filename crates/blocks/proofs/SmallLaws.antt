@@ -16,7 +16,7 @@ use Rattle.layouts.specs.Categories.{known}
 use Rattle.layouts.specs.declared.form.Form.{Form}
 use Rattle.items.specs.Typed.{sourceOf}
 use Rattle.items.specs.declared.typed.Source.{Source}
-use Rattle.blocks.specs.Statistics.{entryOf}
+use Rattle.blocks.specs.Statistics.{reportEntry}
 use Rattle.blocks.specs.Steps.{stepOf}
 use Rattle.blocks.specs.Typed.{typedRec}
 use Rattle.blocks.specs.declared.cursor.Cursor.{Cursor}
@@ -27,11 +27,11 @@ use Rattle.blocks.proofs.StepLaws.{Taking, step-took}
 use Rattle.blocks.proofs.TypedLaws.{form-values}
 
 -- an entry, of octets or not
-pub type-small : (s : List ℕ) (at k : ℕ) → entryOf s at k .typ < 256
+pub type-small : (s : List ℕ) (at k : ℕ) → reportEntry s at k .typ < 256
 unfolding values
 type-small s at k = mod-lt _ (omega arith)
 
-pub count-small : (s : List ℕ) (at k : ℕ) → entryOf s at k .count < 2 ^ 32
+pub count-small : (s : List ℕ) (at k : ℕ) → reportEntry s at k .count < 2 ^ 32
 unfolding values
 count-small s at k = mod-lt _ (omega arith)
 

@@ -11,7 +11,7 @@ use lib.Dec.{eqb}
 use lib.ListN.{length, getD, drop, replicate, length-drop, drop-of-length-le}
 use lib.Seq.{drop-nil, drop-drop, drop-cons, getD-drop}
 use Rattle.octets.specs.Choice.{pick}
-use Rattle.octets.specs.Numbers.{Octets, number}
+use Rattle.octets.specs.Numbers.{Octets}
 use Rattle.octets.specs.Refusals.{longSpecification, spareMarked, noneMarked, presenceBroken}
 use Rattle.octets.proofs.Cases.{neither}
 use Rattle.layouts.specs.Formats.{Parsed, refused, got, andThen, Format, Trace, fitsIn}

@@ -5,7 +5,7 @@ use Prim.Native.Nat.{ℕ, zero, suc, _+_, _*_, _/_}
 use lib.ListN.{getD}
 use Rattle.octets.specs.Choice.{pick, odd}
 
--- the number of marks, field 1 in its low bit
+-- marks as a number, field 1 in its low bit
 unfoldable pub marksOf : List Bool → ℕ
 marksOf [] = 0
 marksOf (b ∷ bs) = pick b 1 0 + marksOf bs * 2

@@ -40,8 +40,8 @@ abbrev pub statisticsOf : Record → Statistics
 statisticsOf t = numbersOf (t .source) (t .service) (t .entries)
 
 -- entry k of 23/120, of those that lie from an offset: TYPE, REF, count
-abbrev pub entryOf : List ℕ → ℕ → ℕ → Entry
-entryOf s at k =
+abbrev pub reportEntry : List ℕ → ℕ → ℕ → Entry
+reportEntry s at k =
     let c = counterOf (entryValues s (entryGroupOf (cat23 .cat)) at k) in
     record { typ = c .typ; reference = c .reference; count = c .count }
 

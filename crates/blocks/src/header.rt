@@ -11,7 +11,7 @@ pub enum Head {
 }
 
 // Under 3 octets; category; LEN below 4; LEN beyond the octets lent.
-pub fn header(s: &[u8]) -> Head
+pub(crate) fn header(s: &[u8]) -> Head
     ensures { λ r. ⌜ (r ≡ headerOf (now (s .entry))) × (listedHead r ≡ headListed (now (s .entry))) ⌝ }
 {
     if s.len() < 3 {

@@ -23,8 +23,8 @@ fn octet_marks(x: u8) -> u32
         + x / 2 % 2 * 64) as u32
 }
 
-// The marks in n specification octets from an offset. Only for the next layer: at most four, and they lie in the slice.
-pub fn marks_at(s: &[u8], at: usize, n: usize) -> u32
+// The marks in n specification octets from an offset: at most four, and they lie in the slice.
+pub(crate) fn marks_at(s: &[u8], at: usize, n: usize) -> u32
     requires { ⌜ (at + n ≤ length (now s)) × (n ≤ 4) ⌝ }
     ensures { λ r. ⌜ r ≡ marksOf (flags (groupsOf n (now (s .entry)) at)) ⌝ }
 {

@@ -14,13 +14,13 @@ fn has_all(mandatory: u32, marks: u32) -> bool
 }
 
 // Of category 65: 040 exactly in type 1, 020 exactly in type 2, 050 exactly in the third.
-fn has_of_type(kind: u8, marks: u32) -> bool
-    ensures { λ r. ⌜ r ≡ meets needsByType kind (flagsOf 32 marks) ⌝ }
+fn has_of_type(message_type: u8, marks: u32) -> bool
+    ensures { λ r. ⌜ r ≡ meets needsByType «message_type» (flagsOf 32 marks) ⌝ }
 {
-    let batch = is_marked(marks, 5);
-    let sdps = is_marked(marks, 6);
-    let report = is_marked(marks, 7);
-    match kind {
+    let batch = is_marked(marks, Cat65::F020);
+    let sdps = is_marked(marks, Cat65::F040);
+    let report = is_marked(marks, Cat65::F050);
+    match message_type {
         1 => !batch & sdps & !report,
         2 => batch & !sdps & !report,
         _ => !batch & !sdps & report,
@@ -28,12 +28,12 @@ fn has_of_type(kind: u8, marks: u32) -> bool
 }
 
 // Whether a record of a type has the items that it must have, and none that it must not.
-pub fn is_present(cat: u8, kind: u8, marks: u32) -> bool
-    ensures { λ r. ⌜ r ≡ meets (needsOf cat) kind (flagsOf 32 marks) ⌝ }
+pub fn is_present(cat: u8, message_type: u8, marks: u32) -> bool
+    ensures { λ r. ⌜ r ≡ meets (needsOf cat) «message_type» (flagsOf 32 marks) ⌝ }
 {
     let all = has_all(mandatory_of(cat), marks);
     if cat == Cat65::CAT {
-        return all & has_of_type(kind, marks);
+        return all & has_of_type(message_type, marks);
     }
     all
 }

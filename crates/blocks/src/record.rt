@@ -63,10 +63,13 @@ pub struct Record {
     pub purpose: Place,
 }
 
+// How many forms there are.
+pub(crate) const FORMS: usize = 17;
+
 // A record's marks, where its items start, by the numbers of their forms, and where the last ends.
 pub(crate) struct Starts {
     pub marks: u32,
-    pub items: [usize; 17],
+    pub items: [usize; FORMS],
     pub end: usize,
 }
 
@@ -96,7 +99,7 @@ fn form_number(form: Form) -> usize
 }
 
 // Where the item of a form starts.
-pub(crate) fn start_of(items: [usize; 17], form: Form) -> usize
+pub(crate) fn start_of(items: [usize; FORMS], form: Form) -> usize
     ensures { λ r. ⌜ r ≡ getD items (formNumber form) 0 ⌝ }
 {
     let n = form_number(form);
@@ -137,7 +140,7 @@ pub(crate) fn starts_at(s: &[u8], len: usize, cat: u8, at: usize) -> Starts
     let marks = marks_at(s, at, from - at);
     let last = last_field(cat);
     let none = s.len();
-    let mut items = [none; 17];
+    let mut items = [none; FORMS];
     let mut p = from;
     let mut f = next_field(marks, 1);
     while f <= last {
@@ -167,7 +170,7 @@ fn entries_form(cat: u8) -> Form
 }
 
 // The typed record of items that start at these offsets.
-fn record_by(s: &[u8], cat: u8, marks: u32, items: [usize; 17]) -> Record
+fn record_by(s: &[u8], cat: u8, marks: u32, items: [usize; FORMS]) -> Record
     requires { ⌜ ((n : ℕ) → getD items n 0 ≤ length (now s)) ⌝ }
     ensures { λ r. ⌜ r ≡ typedBy (now (s .entry)) cat marks items ⌝ }
 {

@@ -3,7 +3,7 @@ ghost use mathlib.Core.Path.{_≡_};
 ghost use Prim.Native.Nat.{_+_, _*_, _≤_, _<_};
 ghost use lib.ListN.{length};
 ghost use Rattle.layouts.specs.Categories.{cat23};
-ghost use Rattle.blocks.specs.Statistics.{isReport, isStatistics, numbersOf, statisticsOf, seenOf, listedSeen, seenListed, entryOf};
+ghost use Rattle.blocks.specs.Statistics.{isReport, isStatistics, numbersOf, statisticsOf, seenOf, listedSeen, seenListed, reportEntry};
 ghost use Rattle.blocks.specs.Steps.{takeOf, entryGroupOf};
 ghost use Rattle.blocks.specs.declared.cursor.Cursor.{Cursor};
 ghost use Rattle.blocks.specs.declared.cursor.Step.{Step};
@@ -45,20 +45,18 @@ pub struct Entry {
     pub count: u32,
 }
 
-// The category that statistics reports are of, and their type.
+// The category that statistics reports are of.
 pub const CATEGORY: u8 = Cat23::CAT;
-
-const STATISTICS: u8 = 3;
 
 // Whether a record is a statistics report: its category, its type, and the marks of 010, 015 and 120.
 fn is_report(cat: u8, message_type: u8, marks: u32) -> bool
     ensures { λ r. ⌜ r ≡ isReport cat «message_type» marks ⌝ }
 {
     (cat == CATEGORY)
-        & (message_type == STATISTICS)
-        & is_marked(marks, 1)
-        & is_marked(marks, 3)
-        & is_marked(marks, 9)
+        & (message_type == Cat23::STATISTICS)
+        & is_marked(marks, Cat23::F010)
+        & is_marked(marks, Cat23::F015)
+        & is_marked(marks, Cat23::F120)
 }
 
 // The same of a typed record.
@@ -96,7 +94,7 @@ pub fn statistics_of(record: Record) -> Statistics
 // Entry k of those that lie from an offset. Only for the next layer: it lies in the slice.
 pub fn counter(s: &[u8], at: usize, k: usize) -> Entry
     requires { ⌜ at + k * entryGroupOf (cat23 .cat) .wide + entryGroupOf (cat23 .cat) .wide ≤ length (now s) ⌝ }
-    ensures { λ r. ⌜ r ≡ entryOf (now (s .entry)) at k ⌝ }
+    ensures { λ r. ⌜ r ≡ reportEntry (now (s .entry)) at k ⌝ }
 {
     let entry = counter_at(s, at + k * Cat23::ENTRY);
     Entry {

@@ -87,7 +87,7 @@ same-end l held keeps xs room order o ns ms end end' h h' =
     let same = any-order addUp adding-key (rowsOf (l .cells)) (map report xs) order (k .good .rises) room o in (
       b .told ∙ ap (answers addUp (rowsOf (l .cells))) (in-order xs order o) ∙ same .answered ∙ ap (answersInOrder order) (sym (a .told)),
       ledger-same (b .kept .rest ∙ ap cellsOf (b .left ∙ ap (after addUp (rowsOf (l .cells))) (in-order xs order o) ∙ same .ended ∙ sym (a .left))
-      ∙ sym (a .kept .rest)),
+          ∙ sym (a .kept .rest)),
     )
 
 -- The row rule: after a run each counter's row is the adding-up rule over that counter's own entries, in their order, of the reports that

@@ -117,10 +117,6 @@ module _ (s : List ℕ) (n at : ℕ) (o : Octets s) where
   reading-given = (λ e. stopped-fault (read-stopped s n at o e), λ w. stopped-read s n at (fault-stopped w))
 
   module _ (r : Reading) (h : Reads s r) where
-    -- A block is refused exactly where it is stopped: by its header, or by the first record that is faulty.
-    pub stopped-exactly : (r ≡ Reading.Refused n at) ↔ Stopped s n at
-    stopped-exactly = (λ e. read-stopped s n at o (sym (h .0) ∙ e), λ w. h .0 ∙ stopped-read s n at w)
-
     -- 1 to 11 of a block, with the offset: given when, and only then.
     pub read-given : (r ≡ Reading.Refused n at) ↔ BlockFault s n at
     read-given = (λ e. reading-given .0 (sym (h .0) ∙ e), λ w. h .0 ∙ reading-given .1 w)

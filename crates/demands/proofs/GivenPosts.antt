@@ -9,14 +9,12 @@ use borrow.Author.Tests.{ne-eqb}
 use lib.Dec.{eqb}
 use Rattle.octets.specs.Choice.{pick}
 use Rattle.octets.specs.Numbers.{Octets}
-use Rattle.blocks.specs.declared.record.Record.{Record}
 use Rattle.blocks.proofs.BoundaryLaws.{read-stopped}
 use Rattle.ledger.specs.Ledgers.{answer}
-use Rattle.ledger.specs.Posts.{postOf}
 use Rattle.ledger.specs.declared.Answer.{Answer}
 use Rattle.ledger.specs.declared.Ledger.{Ledger}
 use Rattle.demands.specs.Contracts.{Posts}
-use Rattle.demands.specs.Verdicts.{Chosen, Verdict, broken, unread, missing, other, full, past, added, case}
+use Rattle.demands.specs.Verdicts.{Verdict, broken, unread, missing, other, full, past, added, case}
 use Rattle.demands.proofs.GivenBlocks.{read-refusals}
 use Rattle.demands.proofs.Verdicts.{refusal-of, verdict}
 
@@ -25,10 +23,6 @@ made-answer : (n : ℕ) (r : Answer) → r .refusal ≡ n → answer n (r .ledge
 made-answer n r e = ap (λ m. answer m (r .ledger .cells)) (sym e)
 
 module _ (l : Ledger) (s : List ℕ) (k : ℕ) (o : Octets s) where
-  -- Each case implies its answer, with the ledger that the post leaves.
-  pub verdict-posts : (n : ℕ) → Verdict l s k n → Posts l s k (answer n (postOf (l .cells) s k .ledger .cells))
-  verdict-posts n v = made-answer n (postOf (l .cells) s k) (refusal-of l s k n o v)
-
   -- A post is answered n exactly where n is its verdict.
   pub posts-given : (n : ℕ) (r : Answer) → Posts l s k r → (r .refusal ≡ n) ↔ Verdict l s k n
   posts-given n r h = (
@@ -67,7 +61,3 @@ module _ (l : Ledger) (s : List ℕ) (k : ℕ) (o : Octets s) where
   -- and are the same case: no two of the cases hold together.
   pub one-case : (n m : ℕ) (v : Verdict l s k n) (w : Verdict l s k m) → case v ≡ case w
   one-case n m v w = case-of n v ∙ ap caseOf (one-refusal n m v w) ∙ sym (case-of m w)
-
--- The record that a number chooses is one.
-pub one-chosen : (l : Ledger) (s : List ℕ) (k : ℕ) (t u : Record) → Chosen l s k t → Chosen l s k u → t ≡ u
-one-chosen l s k t u c d = let e = sym (c .taken) ∙ d .taken in cc

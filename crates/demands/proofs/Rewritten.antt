@@ -118,7 +118,7 @@ module _ (cat : ℕ) (k : known cat ≡ true) (two : 2 ≤ category cat .most) (
       ∙ ap (λ (m : ℕ). Reading.Accepted m (length (rs ++ ts))) (headed-len cat body t l)
 
   -- Steps over the two hand out the same records, one by one.
-  pub second-steps : InTurn longer plain (length (rs ++ ts)) 3 3 (3 + length (a ++ ((x + 1) ∷ 0 ∷ b))) (3 + length (a ++ (x ∷ b)))
+  pub second-steps : InTurn (headed cat (a ++ ((x + 1) ∷ 0 ∷ b)) ++ t) (headed cat (a ++ (x ∷ b)) ++ t) (length (rs ++ ts)) 3 3 (3 + length (a ++ ((x + 1) ∷ 0 ∷ b))) (3 + length (a ++ (x ∷ b)))
   second-steps =
       let l : length (a ++ ((x + 1) ∷ 0 ∷ b)) ≡ suc (length (a ++ (x ∷ b))) = rw (length-append, length-append) (omega arith) in
       same-blocks longer plain longer-octets plain-octets _ _ _ _ (read-up (a ++ ((x + 1) ∷ 0 ∷ b)) fit (both .0))

@@ -21,13 +21,13 @@ use Rattle.doors.proofs.wear_write as wear-write
 use Rattle.doors.proofs.wear_rewrite as wear-rewrite
 use Rattle.doors.proofs.wear_post as wear-post
 use Rattle.demands.specs.Claims.{MeetsJust}
-use Rattle.demands.specs.Contracts.{Reads, Starts, Steps, Entries, Writes, Rewrites, Fresh, Checks, Posts, LentPosts, Loads, Stores, Begins}
+use Rattle.demands.specs.Contracts.{Reads, First, Steps, Entries, Writes, Rewrites, Fresh, Checks, Posts, LentPosts, Loads, Stores, Begins}
 use Rattle.demands.specs.Contracts.{WearReads, WearSteps, WearEntries, WearWrites, WearRewrites, WearPosts}
 
 pub reading : MeetsJust read.ended read.Symbol.routine (λ _ (s, _) r _. Reads (now s) r)
 reading M = read.Met.met
 
-pub starting : MeetsJust first.ended first.Symbol.routine (λ _ _ r _. Starts r)
+pub starting : MeetsJust first.ended first.Symbol.routine (λ _ _ r _. First r)
 starting M = first.Met.met
 
 pub step-taken : MeetsJust step.ended step.Symbol.routine (λ _ (c, (s, _)) r _. Steps (now s) (c .at) r)

@@ -15,13 +15,13 @@ use Rattle.ledger.specs.declared.Answer.{Answer}
 use Rattle.ledger.specs.declared.Ledger.{Ledger}
 use Rattle.ledger.proofs.CellLaws.{ledger-same}
 use Rattle.feed.specs.declared.block.Next.{Next}
-use Rattle.demands.specs.Contracts.{Reads, Starts, Steps, Entries, Writes, Rewrites, Fresh, Checks, Posts, LentPosts, Loads, Stores, Begins}
+use Rattle.demands.specs.Contracts.{Reads, First, Steps, Entries, Writes, Rewrites, Fresh, Checks, Posts, LentPosts, Loads, Stores, Begins}
 use Rattle.demands.specs.Contracts.{WearReads, WearSteps, WearEntries, WearWrites, WearRewrites, WearPosts}
 
 pub one-reading : (s : List ℕ) (r q : Reading) → Reads s r → Reads s q → r ≡ q
 one-reading s r q h k = only (h .0) (k .0)
 
-pub one-start : (r q : Cursor) → Starts r → Starts q → r ≡ q
+pub one-start : (r q : Cursor) → First r → First q → r ≡ q
 one-start r q h k i = record { at = only h k i }
 
 pub one-step : (s : List ℕ) (start : ℕ) (r q : Step) → Steps s start r → Steps s start q → r ≡ q

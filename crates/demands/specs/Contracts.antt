@@ -29,8 +29,8 @@ abbrev pub Reads : List ℕ → Reading → Type 0
 Reads s r = (r ≡ readOf s) × (listedReading r ≡ readListed s)
 
 -- blocks::cursor::Cursor::first: the cursor
-abbrev pub Starts : Cursor → Type 0
-Starts r = r .at ≡ 3
+abbrev pub First : Cursor → Type 0
+First r = r .at ≡ 3
 
 -- blocks::cursor::Cursor::step: the octets, the start, the answer
 abbrev pub Steps : List ℕ → ℕ → Step → Type 0

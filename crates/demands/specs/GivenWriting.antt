@@ -5,7 +5,7 @@ use mathlib.Core.List.{List, [], _∷_}
 use mathlib.Core.Logic.{_⊎_}
 use mathlib.Core.Path.{_≡_}
 use Prim.Native.Nat.{ℕ, _+_, _*_, _≤_, _<_}
-use lib.ListN.{length, getD}
+use lib.ListN.{length}
 use Rattle.octets.specs.Refusals.{unknownCategory, spareMarked, noneMarked, passesEnd, noCount, presenceBroken, outOfRange}
 use Rattle.layouts.specs.Groups.{fits, Group}
 use Rattle.layouts.specs.Formats.{Format, fitsIn}
@@ -16,7 +16,7 @@ use Rattle.items.specs.declared.typed.Item.{Item}
 use Rattle.items.specs.declared.typed.Place.{Place}
 use Rattle.blocks.specs.Blocks.{Block, wrong, all, blockOf, putBlock}
 use Rattle.blocks.specs.Boundaries.{Full}
-use Rattle.blocks.specs.Marks.{flagsOf}
+use Rattle.blocks.specs.Marks.{flagsOf, marked}
 use Rattle.blocks.specs.Meaning.{itemIn, recOf}
 use Rattle.layouts.specs.Presence.{needsOf, meets}
 use Rattle.blocks.specs.Steps.{entryValues}
@@ -58,7 +58,7 @@ pub data ItemFault (s : List ℕ) (i : Item) (n : ℕ) : Type 0 where
 module _ (s : List ℕ) (t : Record) where
   -- a field is marked, the first is field 1; and its item
   abbrev pub Marked : ℕ → Type 0
-  Marked f = getD (false ∷ flagsOf 32 (t .marks)) f false ≡ true
+  Marked f = marked (t .marks) f ≡ true
 
   abbrev pub itemOn : ℕ → Item
   itemOn f = itemIn t (formAt (category (t .category)) f)

@@ -16,6 +16,7 @@ use Rattle.demands.specs.Contracts.{Posts}
 -- what comes in: octets, and which record of them, from 0
 pub record Sent : Type 0 where
   pub octets : List ℕ
+  -- every slice that is lent is octets; the rules ask for keys of 32 bits
   pub are : Octets octets
   pub k : ℕ
 

@@ -22,10 +22,10 @@ use layouts::form::Form;
 use octets::refusal;
 
 // How many cells a record has.
-pub const CELLS: usize = 36;
+pub const RECORD_CELLS: usize = 36;
 
 // The cells of a record.
-pub fn record_cells(record: Record) -> [u64; CELLS]
+pub fn record_cells(record: Record) -> [u64; RECORD_CELLS]
     ensures { λ r. ⌜ r ≡ recordCells «record» ⌝ }
 {
     [
@@ -155,7 +155,7 @@ fn configuration_of(cells: &[u64]) -> Configuration
     }
 }
 
-// The record of given cells, each cut to its place. Only for callers that have seen so many cells.
+// The record of given cells, each cut to its place. Only for the next layer, which has seen so many cells.
 pub fn record_of(cells: &[u64]) -> Record
     requires { ⌜ cellCount ≤ length (now cells) ⌝ }
     ensures { λ r. ⌜ r ≡ recordOf (now (cells .entry)) ⌝ }
@@ -277,8 +277,8 @@ fn all_fit(cells: &[u64], cat: u8, marks: u32) -> bool
     true
 }
 
-// 2, 6 and 5 of the category's cell and the marks', then 11 for a cell of a marked item that does not fit its place. Only for callers that have
-// seen so many cells.
+// 2, 6 and 5 of the category's cell and the marks', then 11 for a cell of a marked item that does not fit its place. Only for the next layer,
+// which has seen so many cells.
 pub fn cells_refusal(cells: &[u64]) -> u8
     requires { ⌜ cellCount ≤ length (now cells) ⌝ }
     ensures { λ r. ⌜ r ≡ cellsRefusal (now (cells .entry)) ⌝ }

@@ -6,7 +6,7 @@ ghost use mathlib.Core.Path.{_≡_};
 ghost use Prim.Native.Nat.{_+_, _≤_};
 ghost use lib.ListN.{length};
 ghost use Rattle.octets.specs.Numbers.{laid};
-ghost use Rattle.octets.specs.Outcomes.{within, outputOf, listedWritten, outcomeListed};
+ghost use Rattle.octets.specs.Outcomes.{within, answerOf, outputOf, listedWritten, outcomeListed};
 ghost use Rattle.blocks.specs.Walks.{readListed};
 ghost use Rattle.blocks.specs.Steps.{stepListed, entryListed};
 ghost use Rattle.writing.specs.Written.{rewriteOf};
@@ -15,7 +15,7 @@ ghost use Rattle.doors.specs.Answers.{isFew, refusalOr, cellsOr, readCel
 
 pub mod cells;
 
-use crate::cells::CELLS;
+use crate::cells::RECORD_CELLS;
 use crate::cells::cells_refusal;
 use crate::cells::record_cells;
 use crate::cells::record_of;
@@ -34,7 +34,7 @@ use writing::block::rewrite;
 use writing::block::write;
 
 // The cells of a step: the offset, the next start, and the record's.
-const STEP_CELLS: usize = 2 + CELLS;
+const STEP_CELLS: usize = 2 + RECORD_CELLS;
 
 // Values into cells from one on.
 fn lay(cells: &mut [u64], at: usize, values: &[u64])
@@ -152,7 +152,7 @@ pub extern "C" fn wear_write(cells: &[u64], source: &[u8], out: &mut [u8], size:
         × (now (out .exit) ≡ putOutput (isFew cellCount (now (cells .entry)) || isFew 1 (now (size .entry))) (now (out .entry)) (within (length (now (out .entry))) (cellsWritten (now (cells .entry)) (now (source .entry)))))
         × (now (size .exit) ≡ putLength (isFew cellCount (now (cells .entry)) || isFew 1 (now (size .entry))) (now (size .entry)) (within (length (now (out .entry))) (cellsWritten (now (cells .entry)) (now (source .entry))))) ⌝ }
 {
-    if cells.len() < CELLS {
+    if cells.len() < RECORD_CELLS {
         return refusal::OUTPUT_TOO_SHORT as u32;
     }
     if size.len() < 1 {
@@ -181,6 +181,7 @@ pub extern "C" fn wear_rewrite(s: &[u8], out: &mut [u8], size: &mut [u64]) -> u3
 // A record of a block posted to the ledger of a page, and the ledger stored: load's refusal, post's, store's.
 fn posted_page(page: &[u8], s: &[u8], k: usize, out: &mut [u8]) -> Written
     ensures { λ r. ⌜ (now (out .exit) ≡ outputOf (now (out .entry)) (within (length (now (out .entry))) (pagePosted (now (page .entry)) (now (s .entry)) k)))
+        × (r ≡ answerOf (within (length (now (out .entry))) (pagePosted (now (page .entry)) (now (s .entry)) k)))
         × (listedWritten r ≡ outcomeListed (within (length (now (out .entry))) (pagePosted (now (page .entry)) (now (s .entry)) k))) ⌝ }
 {
     let loaded = load(page);

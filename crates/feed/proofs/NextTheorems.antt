@@ -90,13 +90,6 @@ module _ (s : List ℕ) where
   next-whole-block over len (inl e) = next-says over (Next.Accepted len) e
   next-whole-block over len (inr e) = next-says over (Next.Skipped len) e
 
-  -- LEN has two octets
-  pub next-len : (over : Bool) (len : ℕ) → Octets s → (nextOf s over ≡ Next.Accepted len) ⊎ (nextOf s over ≡ Next.Skipped len)
-      → (4 ≤ len) × (len ≤ length s) × (len < 65536)
-  next-len over len o h =
-      let w = next-whole-block over len h in
-      (w .least, w .fits, omega (arith, number-lt 2 s 1 o))
-
   -- fewer octets wait than the longest block has
   pub next-waits : Octets s → nextOf s false ≡ Next.More → length s < 65535
   next-waits o e = go (next-says false Next.More e .1)

@@ -61,8 +61,8 @@ pub fn next_block(s: &[u8], is_over: bool) -> Next
 }
 
 // Posts the records of an accepted block of LEN octets, along its steps: only category 23 has statistics reports, and every other record is
-// answered 13. For `run`, and for callers that have seen the block accepted.
-pub fn post_block(cells: &mut [u64; CELLS], s: &[u8], len: usize, totals: Totals) -> Totals
+// answered 13. `run` has seen the block accepted.
+pub(crate) fn post_block(cells: &mut [u64; CELLS], s: &[u8], len: usize, totals: Totals) -> Totals
     requires { ⌜ Kept (now cells) × ((n : ℕ) × (readOf (now s) ≡ Reading.Accepted len n)) ⌝ }
     ensures { λ r. ⌜ (now (cells .exit) ≡ changed (λ rows. after addUp rows (reportsOf (now (s .entry)))) (now (cells .entry)))
         × (r ≡ acceptedOne totals (answers addUp (rowsOf (now (cells .entry))) (reportsOf (now (s .entry))))) ⌝ }

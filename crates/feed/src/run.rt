@@ -24,7 +24,7 @@ pub struct Done {
     pub ending: Ending,
 }
 
-// A run over the octets at hand, as far as they go. Only for a caller whose cells keep the rules.
+// A run over the octets at hand, as far as they go. Only for the next layer: its cells keep the rules.
 pub fn run(cells: &mut [u64; CELLS], s: &[u8], is_over: bool, totals: Totals) -> Done
     requires { ⌜ Kept (now cells) ⌝ }
     ensures { λ r. ⌜ (now (cells .exit) ≡ changed (λ rows. runOver (now (s .entry)) «is_over» (state rows totals) .state .rows) (now (cells .entry)))

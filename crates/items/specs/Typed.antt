@@ -5,7 +5,7 @@ use Prim.Native.Nat.{ℕ, _+_, _*_, _-_, _%_}
 use lib.Dec.{leb, ltb, eqb}
 use lib.ListN.{length, getD}
 use Rattle.octets.specs.Choice.{pick, when}
-use Rattle.octets.specs.Numbers.{number, octets}
+use Rattle.octets.specs.Numbers.{octets}
 use Rattle.octets.specs.Outcomes.{WrittenListed}
 use Rattle.octets.specs.Refusals.{passesEnd, noCount, outOfRange}
 use Rattle.layouts.specs.Groups.{merge, Group}

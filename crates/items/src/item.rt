@@ -203,9 +203,8 @@ fn versions_refusal(place: Place, size: usize, source: &[u8]) -> u8
     }
 }
 
-// The number that refuses an item for writing, entries and content in the source: 7, 8, 11. Only for the next layer: the field is
-// the item's.
-pub fn item_refusal(item: Item, field: Field, source: &[u8]) -> u8
+// The number that refuses an item for writing, entries and content in the source: 7, 8, 11. The field is the item's.
+pub(crate) fn item_refusal(item: Item, field: Field, source: &[u8]) -> u8
     requires { ⌜ field ≡ fieldOf item ⌝ }
     ensures { λ r. ⌜ r ≡ itemRefusal (now (source .entry)) item ⌝ }
 {
@@ -396,9 +395,7 @@ pub fn source_at(s: &[u8], at: usize) -> Source
     requires { ⌜ at ≤ length (now s) ⌝ }
     ensures { λ r. ⌜ r ≡ sourceOf (traceAt (format (layout Form.Source)) (now (s .entry)) at) ⌝ }
 {
-    let field = Cat23::I010;
-    let kind = field.1;
-    crate::values::source_of(octets::read(s, at, first_octets(kind)))
+    crate::values::source_of(octets::read2(s, at) as u64)
 }
 
 // Only for the next layer: as source_at.

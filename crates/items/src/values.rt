@@ -25,7 +25,7 @@ use crate::typed::Station;
 use crate::typed::Version;
 use layouts::form::Form;
 
-pub fn source_of(first: u64) -> Source
+pub(crate) fn source_of(first: u64) -> Source
     ensures { λ r. ⌜ r ≡ sourceOf (values (source .parts) first ∷ []) ⌝ }
 {
     Source {
@@ -34,7 +34,7 @@ pub fn source_of(first: u64) -> Source
     }
 }
 
-pub fn service_of(first: u64) -> Service
+pub(crate) fn service_of(first: u64) -> Service
     ensures { λ r. ⌜ r ≡ serviceOf (values (service .parts) first ∷ []) ⌝ }
 {
     Service {
@@ -43,7 +43,7 @@ pub fn service_of(first: u64) -> Service
     }
 }
 
-pub fn sdps_of(first: u64) -> Sdps
+pub(crate) fn sdps_of(first: u64) -> Sdps
     ensures { λ r. ⌜ r ≡ sdpsOf (values (sdps .parts) first ∷ []) ⌝ }
 {
     Sdps {
@@ -54,7 +54,7 @@ pub fn sdps_of(first: u64) -> Sdps
     }
 }
 
-pub fn station_of(first: u64, second: u64) -> Station
+pub(crate) fn station_of(first: u64, second: u64) -> Station
     ensures { λ r. ⌜ r ≡ stationOf (values (station .parts) first ∷ values (period .parts) second ∷ []) ⌝ }
 {
     Station {
@@ -70,7 +70,7 @@ pub fn station_of(first: u64, second: u64) -> Station
     }
 }
 
-pub fn configuration_of(first: u64, second: u64) -> Configuration
+pub(crate) fn configuration_of(first: u64, second: u64) -> Configuration
     ensures { λ r. ⌜ r ≡ configurationOf (values (configuration .parts) first ∷ values (period .parts) second ∷ []) ⌝ }
 {
     Configuration {
@@ -82,7 +82,7 @@ pub fn configuration_of(first: u64, second: u64) -> Configuration
 }
 
 // The number of an item's first group; 0 for entries and content.
-pub fn first_of(item: Item) -> u64
+pub(crate) fn first_of(item: Item) -> u64
     ensures { λ r. ⌜ r ≡ firstNumber (firstGroup (layout (formOf item))) (given item) ⌝ }
 {
     match item {
@@ -118,7 +118,7 @@ pub fn first_of(item: Item) -> u64
 }
 
 // The number of an item's extension; 0 where there is none.
-pub fn second_of(item: Item) -> u64
+pub(crate) fn second_of(item: Item) -> u64
     ensures { λ r. ⌜ r ≡ secondNumber (given item) ⌝ }
 {
     match item {
@@ -137,7 +137,7 @@ pub fn second_of(item: Item) -> u64
 }
 
 // Where an item's entries or content lie; zeros for the others.
-pub fn place_of(item: Item) -> Place
+pub(crate) fn place_of(item: Item) -> Place
     ensures { λ r. ⌜ r ≡ placeOf (given item) ⌝ }
 {
     match item {
@@ -150,7 +150,7 @@ pub fn place_of(item: Item) -> Place
 }
 
 // An entry's number with its spare bits cleared.
-pub fn entry_number(form: Form, x: u64) -> u64
+pub(crate) fn entry_number(form: Form, x: u64) -> u64
     ensures { λ r. ⌜ r ≡ merge (entryGroup (layout form) .parts) (values (entryGroup (layout form) .parts) x) 0 ⌝ }
 {
     match form {
@@ -165,7 +165,7 @@ pub fn entry_number(form: Form, x: u64) -> u64
 }
 
 // An entry of 23/120.
-pub fn counter_of(x: u64) -> Counter
+pub(crate) fn counter_of(x: u64) -> Counter
     ensures { λ r. ⌜ r ≡ counterOf (values (counter .parts) x) ⌝ }
 {
     Counter {
@@ -176,7 +176,7 @@ pub fn counter_of(x: u64) -> Counter
 }
 
 // An entry of 242/550.
-pub fn version_of(x: u64) -> Version
+pub(crate) fn version_of(x: u64) -> Version
     ensures { λ r. ⌜ r ≡ versionOf (values (version .parts) x) ⌝ }
 {
     Version {
@@ -187,7 +187,7 @@ pub fn version_of(x: u64) -> Version
 }
 
 // A number from a least to a greatest.
-pub fn within(x: u8, least: u8, greatest: u8) -> bool
+pub(crate) fn within(x: u8, least: u8, greatest: u8) -> bool
     ensures { λ r. ⌜ r ≡ (leb least x && leb x greatest) ⌝ }
 {
     if x < least { false } else { x <= greatest }
@@ -262,7 +262,7 @@ fn configuration_fits(x: Configuration) -> bool
 }
 
 // The values that an item gives as such fit their bits and ranges. Of entries and content nothing is said.
-pub fn exact_fits(item: Item) -> bool
+pub(crate) fn exact_fits(item: Item) -> bool
     ensures { λ r. ⌜ r ≡ exactFits (itemFormat item) (given item) ⌝ }
 {
     match item {

@@ -24,6 +24,15 @@ impl Cat23 {
     // The spare fields, 10 to 12, and those past the last.
     pub const UNUSED: u32 = 0xFFFF_CE00;
 
+    // The value of 000 in a statistics report, and the fields of what it is told by: 010, 015 and 120.
+    pub const STATISTICS: u8 = 3;
+
+    pub const F010: usize = 1;
+
+    pub const F015: usize = 3;
+
+    pub const F120: usize = 9;
+
     pub const I010: Field = Field(Form::Source, Kind::Fixed(2));
 
     pub const I000: Field = Field(Form::MessageType, Kind::Fixed(1));
@@ -53,15 +62,15 @@ impl Cat23 {
         ensures { λ r. ⌜ r ≡ fieldAt cat23 f ⌝ }
     {
         match f {
-            1 => Self::I010,
+            Self::F010 => Self::I010,
             2 => Self::I000,
-            3 => Self::I015,
+            Self::F015 => Self::I015,
             4 => Self::I070,
             5 => Self::I100,
             6 => Self::I101,
             7 => Self::I200,
             8 => Self::I110,
-            9 => Self::I120,
+            Self::F120 => Self::I120,
             13 => Self::RE,
             14 => Self::SP,
             _ => SPARE,
@@ -82,6 +91,13 @@ impl Cat65 {
 
     // The spare fields, 8 to 12, and those past the last.
     pub const UNUSED: u32 = 0xFFFF_CF80;
+
+    // The fields that go by the type: 020, 040 and 050.
+    pub const F020: usize = 5;
+
+    pub const F040: usize = 6;
+
+    pub const F050: usize = 7;
 
     pub const I010: Field = Field(Form::Source, Kind::Fixed(2));
 
@@ -109,9 +125,9 @@ impl Cat65 {
             2 => Self::I000,
             3 => Self::I015,
             4 => Self::I030,
-            5 => Self::I020,
-            6 => Self::I040,
-            7 => Self::I050,
+            Self::F020 => Self::I020,
+            Self::F040 => Self::I040,
+            Self::F050 => Self::I050,
             13 => Self::RE,
             14 => Self::SP,
             _ => SPARE,

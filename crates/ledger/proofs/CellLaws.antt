@@ -12,7 +12,7 @@ use Rattle.rows.specs.Rows.{Row, newRow}
 use Rattle.rows.specs.Order.{upto}
 use Rattle.rows.specs.Posting.{Each, Good}
 use Rattle.rows.proofs.Numbers.{map-same, read-upto, within-upto, at-upto}
-use Rattle.ledger.specs.Ledgers.{head, wide, cellCount, rowCells, placeAt, rowIn, countOf, rowsOf, table, cellsOf}
+use Rattle.ledger.specs.Ledgers.{head, wide, ledgerCells, rowCells, rowPlace, rowIn, countOf, rowsOf, table, cellsOf}
 use Rattle.ledger.specs.Steps.{Narrow, Ruled, Kept}
 use Rattle.ledger.specs.declared.Ledger.{Ledger}
 use Rattle.ledger.proofs.RowPlaces.{each-at, sorted-get}
@@ -24,35 +24,35 @@ pub row-wide : (r : Row) → length (rowCells r) ≡ wide
 row-wide r = refl
 
 -- number j of a row at a place
-row-part : (cells : List ℕ) (i j : ℕ) → j < wide → getD (rowCells (rowIn cells i)) j 0 ≡ getD cells (placeAt i + j) 0
+row-part : (cells : List ℕ) (i j : ℕ) → j < wide → getD (rowCells (rowIn cells i)) j 0 ≡ getD cells (rowPlace i + j) 0
 row-part cells i zero h = refl
 row-part cells i (suc zero) h = refl
 row-part cells i (suc (suc zero)) h = refl
 row-part cells i (suc (suc (suc j))) h = absurd (omega arith)
 
 -- a place has a row if it has its numbers
-pub row-is : (cells : List ℕ) (i : ℕ) (r : Row) → ((j : ℕ) → j < wide → getD cells (placeAt i + j) 0 ≡ getD (rowCells r) j 0) → rowIn cells i ≡ r
+pub row-is : (cells : List ℕ) (i : ℕ) (r : Row) → ((j : ℕ) → j < wide → getD cells (rowPlace i + j) 0 ≡ getD (rowCells r) j 0) → rowIn cells i ≡ r
 row-is cells i r h p = record { key = h 0 (omega arith) p; life = h 1 (omega arith) p; reading = h 2 (omega arith) p }
 
 -- an empty place has zeros
 blank : (j : ℕ) → j < wide → getD (rowCells (newRow 0)) j 0 ≡ 0
-blank j h = row-part (replicate wide 0) 0 j h ∙ get-same 0 wide (placeAt 0 + j)
+blank j h = row-part (replicate wide 0) 0 j h ∙ get-same 0 wide (rowPlace 0 + j)
 
 -- a cell is one of the ledger's own, or number j at a place
-by-cell : (P : ℕ → Type 0) → ((j : ℕ) → j < head → P j) → ((i j : ℕ) → j < wide → P (placeAt i + j)) → (q : ℕ) → P q
+by-cell : (P : ℕ → Type 0) → ((j : ℕ) → j < head → P j) → ((i j : ℕ) → j < wide → P (rowPlace i + j)) → (q : ℕ) → P q
 by-cell P own at q =
     test (ltb q head) (λ t. own q (ltb-true q head t))
-    (λ f. let e : placeAt ((q - head) / wide) + (q - head) % wide ≡ q = omega (arith, ltb-false q head f) in
+    (λ f. let e : rowPlace ((q - head) / wide) + (q - head) % wide ≡ q = omega (arith, ltb-false q head f) in
     subst P e (at ((q - head) / wide) ((q - head) % wide) (omega arith)))
 
 -- Rows by place
 
 -- two places with the same numbers have the same row
-pub row-same : (xs ys : List ℕ) (i j : ℕ) → ((k : ℕ) → k < wide → getD xs (placeAt i + k) 0 ≡ getD ys (placeAt j + k) 0) → rowIn xs i ≡ rowIn ys j
+pub row-same : (xs ys : List ℕ) (i j : ℕ) → ((k : ℕ) → k < wide → getD xs (rowPlace i + k) 0 ≡ getD ys (rowPlace j + k) 0) → rowIn xs i ≡ rowIn ys j
 row-same xs ys i j h = row-is xs i (rowIn ys j) (λ k l. h k l ∙ sym (row-part ys j k l))
 
 -- cells are the same if their own numbers are and the rows at all places
-cells-same : (xs ys : List ℕ) → length xs ≡ cellCount → length ys ≡ cellCount
+cells-same : (xs ys : List ℕ) → length xs ≡ ledgerCells → length ys ≡ ledgerCells
     → ((j : ℕ) → j < head → getD xs j 0 ≡ getD ys j 0) → ((i : ℕ) → i < 256 → rowIn xs i ≡ rowIn ys i) → xs ≡ ys
 cells-same xs ys a b own rows =
     ext-getD 0 xs ys (a ∙ sym b)
@@ -61,7 +61,7 @@ cells-same xs ys a b own rows =
 
 -- where all numbers are zero a place is empty
 pub none-row : (n i : ℕ) → rowIn (replicate n 0) i ≡ newRow 0
-none-row n i = row-is (replicate n 0) i (newRow 0) (λ j h. get-same 0 n (placeAt i + j) ∙ sym (blank j h))
+none-row n i = row-is (replicate n 0) i (newRow 0) (λ j h. get-same 0 n (rowPlace i + j) ∙ sym (blank j h))
 
 -- there are as many rows as the row count says, and each is what its place has
 pub rows-many : (cells : List ℕ) → length (rowsOf cells) ≡ countOf cells
@@ -93,7 +93,7 @@ module _ (rows : List Row) where
   filled-long : length filled ≡ length rows + (256 - length rows)
   filled-long = length-append rows (replicate (256 - length rows) (newRow 0)) ∙ ap (λ n. length rows + n) (length-replicate (256 - length rows) (newRow 0))
 
-  pub cells-long : length rows ≤ 256 → length (cellsOf rows) ≡ cellCount
+  pub cells-long : length rows ≤ 256 → length (cellsOf rows) ≡ ledgerCells
   unfolding cellsOf
   cells-long h = omega (arith, length-table rowCells wide row-wide filled, filled-long)
 
@@ -103,7 +103,7 @@ module _ (rows : List Row) where
   count-back = refl
 
   part-get : (i j : ℕ) → i < length rows + (256 - length rows) → j < wide
-      → getD (cellsOf rows) (placeAt i + j) 0 ≡ getD (rowCells (getD rows i (newRow 0))) j 0
+      → getD (cellsOf rows) (rowPlace i + j) 0 ≡ getD (rowCells (getD rows i (newRow 0))) j 0
   unfolding cellsOf
   part-get i j h l =
       table-get rowCells wide row-wide (λ r. Unit {0}) (λ s o. getD s (o + j) 0) (λ r. getD (rowCells r) j 0)
@@ -116,7 +116,7 @@ module _ (rows : List Row) where
   row-get i h = row-is (cellsOf rows) i (getD rows i (newRow 0)) (λ j l. part-get i j h l)
 
   -- and it alone has
-  pub cells-are : (cells : List ℕ) → length cells ≡ cellCount → length rows ≤ 256 → countOf cells ≡ length rows
+  pub cells-are : (cells : List ℕ) → length cells ≡ ledgerCells → length rows ≤ 256 → countOf cells ≡ length rows
       → ((i : ℕ) → i < 256 → rowIn cells i ≡ getD rows i (newRow 0)) → cells ≡ cellsOf rows
   cells-are cells long few count at =
       cells-same cells (cellsOf rows) long (cells-long few)
@@ -139,7 +139,7 @@ module _ (rows : List Row) where
       (λ i j h. test (ltb i 256)
       (λ t. rw (part-get i j (omega (arith, ltb-true i 256 t)) h) (test (ltb i (length rows)) (λ u. small i (ltb-true i (length rows) u) j h)
       (λ f. omega (arith, ap (λ r. getD (rowCells r) j 0) (List·getD-eq-default rows (newRow 0) (ltb-false i (length rows) f)), blank j h))))
-      (λ f. rw (List·getD-eq-default (cellsOf rows) 0 {n = placeAt i + j} (omega (arith, cells-long few, ltb-false i 256 f))) (omega arith)))
+      (λ f. rw (List·getD-eq-default (cellsOf rows) 0 {n = rowPlace i + j} (omega (arith, cells-long few, ltb-false i 256 f))) (omega arith)))
 
   -- it keeps the rules where they do
   pub kept-of : Ruled rows → Kept (cellsOf rows)
@@ -154,8 +154,8 @@ module _ (rows : List Row) where
 pub ruled-none : Ruled []
 ruled-none = (record { rises = tt; few = omega arith; read = tt; lived = tt }, tt)
 
-pub fresh-cells : replicate cellCount 0 ≡ cellsOf []
-fresh-cells = cells-are [] (replicate cellCount 0) refl (omega arith) refl (λ i h. none-row cellCount i)
+pub fresh-cells : replicate ledgerCells 0 ≡ cellsOf []
+fresh-cells = cells-are [] (replicate ledgerCells 0) refl (omega arith) refl (λ i h. none-row ledgerCells i)
 
 -- a ledger is its cells
 pub ledger-same : {l m : Ledger} → l .cells ≡ m .cells → l ≡ m
@@ -164,7 +164,7 @@ ledger-same e i = record { cells = e i }
 -- What the rules say of a ledger's cells
 
 -- there are 769
-pub kept-long : (cells : List ℕ) → Kept cells → length cells ≡ cellCount
+pub kept-long : (cells : List ℕ) → Kept cells → length cells ≡ ledgerCells
 kept-long cells k = ap length (k .rest) ∙ cells-long (rowsOf cells) (k .good .few)
 
 -- the keys rise

@@ -11,7 +11,7 @@ use borrow.Author.Tests.{eqb-true, eqb-false}
 use Rattle.octets.proofs.Cases.{test}
 use Rattle.rows.specs.Rows.{Row, newRow}
 use Rattle.rows.proofs.Cases.{compare}
-use Rattle.ledger.specs.Ledgers.{head, cellCount, rowCells, placeAt, rowIn, countOf, rowsOf, cellsOf, putRow}
+use Rattle.ledger.specs.Ledgers.{head, ledgerCells, rowCells, rowPlace, rowIn, countOf, rowsOf, cellsOf, putRow}
 use Rattle.ledger.specs.Steps.{Kept}
 use Rattle.ledger.proofs.CellLaws.{row-wide, row-is, row-same, rows-many, cells-long, count-back, row-get, cells-are}
 
@@ -49,31 +49,31 @@ module _ (l : List ℕ) (o : ℕ) (p : List ℕ) (fits : o + length p ≤ length
 
 -- by its numbers, one after the other
 pub put-numbers : (cells : List ℕ) (i : ℕ) (r : Row)
-    → set (set (set cells (placeAt i + 0) (r .key)) (placeAt i + 1) (r .life)) (placeAt i + 2) (r .reading) ≡ putRow cells i r
+    → set (set (set cells (rowPlace i + 0) (r .key)) (rowPlace i + 1) (r .life)) (rowPlace i + 2) (r .reading) ≡ putRow cells i r
 put-numbers cells i r =
-    let a : placeAt i + 0 ≡ placeAt i = omega arith in
-    let b : placeAt i + 1 ≡ suc (placeAt i) = omega arith in
-    let c : placeAt i + 2 ≡ suc (suc (placeAt i)) = omega arith in
+    let a : rowPlace i + 0 ≡ rowPlace i = omega arith in
+    let b : rowPlace i + 1 ≡ suc (rowPlace i) = omega arith in
+    let c : rowPlace i + 2 ≡ suc (suc (rowPlace i)) = omega arith in
     (λ p. set (set (set cells (a p) (r .key)) (b p) (r .life)) (c p) (r .reading))
 
-module _ (cells : List ℕ) (long : length cells ≡ cellCount) (i : ℕ) (h : i < 256) (r : Row) where
-  fits : placeAt i + length (rowCells r) ≤ length cells
+module _ (cells : List ℕ) (long : length cells ≡ ledgerCells) (i : ℕ) (h : i < 256) (r : Row) where
+  fits : rowPlace i + length (rowCells r) ≤ length cells
   fits = omega arith
 
-  pub put-long : length (putRow cells i r) ≡ cellCount
-  put-long = length-sets cells (placeAt i) (rowCells r) ∙ long
+  pub put-long : length (putRow cells i r) ≡ ledgerCells
+  put-long = length-sets cells (rowPlace i) (rowCells r) ∙ long
 
   pub put-head : (j : ℕ) → j < head → getD (putRow cells i r) j 0 ≡ getD cells j 0
-  put-head j l = sets-before cells (placeAt i) (rowCells r) fits j (omega arith)
+  put-head j l = sets-before cells (rowPlace i) (rowCells r) fits j (omega arith)
 
   pub put-own : rowIn (putRow cells i r) i ≡ r
-  put-own = row-is (putRow cells i r) i r (λ j l. sets-in cells (placeAt i) (rowCells r) fits j (omega (arith, row-wide r)))
+  put-own = row-is (putRow cells i r) i r (λ j l. sets-in cells (rowPlace i) (rowCells r) fits j (omega (arith, row-wide r)))
 
   pub put-other : (j : ℕ) → (j ≡ i → ⊥) → rowIn (putRow cells i r) j ≡ rowIn cells j
   put-other j n = row-same (putRow cells i r) cells j j (λ k l. compare j i
-      (λ m. sets-before cells (placeAt i) (rowCells r) fits (placeAt j + k) (omega arith))
+      (λ m. sets-before cells (rowPlace i) (rowCells r) fits (rowPlace j + k) (omega arith))
       (λ e. absurd (n e))
-      (λ m. sets-behind cells (placeAt i) (rowCells r) fits (placeAt j + k) (omega arith)))
+      (λ m. sets-behind cells (rowPlace i) (rowCells r) fits (rowPlace j + k) (omega arith)))
 
 -- what stands at a place of rows with another row at one, and with one row more
 set-get : (rows : List Row) (i j : ℕ) (x y : Row) → i < length rows → (j ≡ i → y ≡ x) → ((j ≡ i → ⊥) → y ≡ getD rows j (newRow 0))
@@ -98,13 +98,13 @@ set-row rows i x few h =
 -- A place opened: from the last place down, each takes the row that stood before it
 
 pub record Shifted (cells after : List ℕ) (j : ℕ) : Type 0 where
-  pub long : length after ≡ cellCount
+  pub long : length after ≡ ledgerCells
   pub own : (q : ℕ) → q < head → getD after q 0 ≡ getD cells q 0
   pub low : (q : ℕ) → q ≤ j → rowIn after q ≡ rowIn cells q
   pub high : (q : ℕ) → j < q → q < 256 → rowIn after q ≡ rowIn cells (q - 1)
 
 -- nothing has moved
-pub shifted-none : (cells : List ℕ) → length cells ≡ cellCount → Shifted cells cells 255
+pub shifted-none : (cells : List ℕ) → length cells ≡ ledgerCells → Shifted cells cells 255
 shifted-none cells h = record { long = h; own = λ q l. refl; low = λ q l. refl; high = λ q l m. absurd (omega arith) }
 
 -- one row more
@@ -136,7 +136,7 @@ insert-get (r ∷ rows) (suc i) (suc j) x y h below own above =
 
 -- the row count set
 pub set-count : (cells : List ℕ) (n j : ℕ) → rowIn (set cells 0 n) j ≡ rowIn cells j
-set-count cells n j = row-same (set cells 0 n) cells j j (λ k l. getD-set-other cells 0 (placeAt j + k) n 0 (λ e. omega arith))
+set-count cells n j = row-same (set cells 0 n) cells j j (λ k l. getD-set-other cells 0 (rowPlace j + k) n 0 (λ e. omega arith))
 
 -- the rows that keep the rules, with one more at a place
 module _ (cells : List ℕ) (kept : Kept cells) (i : ℕ) (h : i ≤ countOf cells) (few : countOf cells < 256) (x : Row)

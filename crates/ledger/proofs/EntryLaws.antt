@@ -5,7 +5,7 @@ use Prim.Native.Nat.{ℕ, zero, suc, _+_, _-_, _≤_, _<_}
 use native.Mathlib.Numerals.{add-one}
 use native.Mathlib.Omega.{arith}
 use lib.ListN.{length}
-use Rattle.blocks.specs.Statistics.{entryOf}
+use Rattle.blocks.specs.Statistics.{reportEntry}
 use Rattle.rows.specs.Rows.{Entry}
 use Rattle.ledger.specs.Reports.{entriesFrom}
 use Rattle.ledger.specs.Steps.{entry}
@@ -18,7 +18,7 @@ entries-long s first time at (suc n) k = ap suc (entries-long s first time at n 
 
 -- TYPE, REF and count are those of the i-th entry from an offset
 abbrev pub Reads : List ℕ → ℕ → ℕ → ℕ → ℕ → ℕ → Type 0
-Reads s at i typ reference count = (typ ≡ entryOf s at i .typ) × (reference ≡ entryOf s at i .reference) × (count ≡ entryOf s at i .count)
+Reads s at i typ reference count = (typ ≡ reportEntry s at i .typ) × (reference ≡ reportEntry s at i .reference) × (count ≡ reportEntry s at i .count)
 
 module _ (s : List ℕ) (first at n time : ℕ) where
   -- of n entries, those from the i-th on

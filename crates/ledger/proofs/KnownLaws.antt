@@ -12,7 +12,7 @@ use lib.Seq.{getD-set-same, getD-set-other}
 use borrow.Author.Count.{below-more}
 use borrow.Author.Tests.{lt-leb, leb-false, eqb-true, eqb-false}
 use Rattle.octets.proofs.Cases.{test}
-use Rattle.blocks.specs.Statistics.{entryOf}
+use Rattle.blocks.specs.Statistics.{reportEntry}
 use Rattle.blocks.proofs.SmallLaws.{type-small, count-small}
 use Rattle.rows.specs.Rows.{Row, Entry, adds, addUp, rowOf, has, lifeOf, orNew}
 use Rattle.rows.specs.Posting.{newKeys, rowsFor, addEntry, passes, Sorted}
@@ -20,7 +20,7 @@ use Rattle.rows.proofs.Rows.{sorted-add, row-own, row-other}
 use Rattle.rows.proofs.Theorems.{adding-key}
 use Rattle.ledger.specs.Ledgers.{rowIn, countOf, rowsOf, putRow}
 use Rattle.ledger.specs.Reports.{entryAt, entriesFrom}
-use Rattle.ledger.specs.Steps.{Kept, Found, RowAt, Noted, Known, entry}
+use Rattle.ledger.specs.Steps.{Kept, KeyPlace, RowAt, Noted, Known, entry}
 use Rattle.ledger.proofs.CellLaws.{rows-many, kept-rising}
 use Rattle.ledger.proofs.EntryLaws.{Reads}
 use Rattle.ledger.proofs.LoopSteps.{AddLoop, add-none, add-low, add-more}
@@ -46,7 +46,7 @@ raises rows e s k =
 
 module _ (s : List ℕ) (first time at : ℕ) where
   -- where each key has a row there is no new one
-  none-new : (rows : List Row) (n k : ℕ) → ((i : ℕ) → i < k + n → has (rowOf rows (first + entryOf s at i .typ)) ≡ true)
+  none-new : (rows : List Row) (n k : ℕ) → ((i : ℕ) → i < k + n → has (rowOf rows (first + reportEntry s at i .typ)) ≡ true)
       → newKeys rows (entriesFrom s first time at n k) ≡ []
   unfolding newKeys entriesFrom
   none-new rows zero k h = refl
@@ -54,7 +54,7 @@ module _ (s : List ℕ) (first time at : ℕ) where
 
   -- where each life count has room for so many counts none passes
   none-passes : (rows : List Row) (n k : ℕ) → Sorted rows
-      → ((i : ℕ) → i < k + n → lifeOf (rowOf rows (first + entryOf s at i .typ)) + n * 2 ^ 32 ≤ 2 ^ 64)
+      → ((i : ℕ) → i < k + n → lifeOf (rowOf rows (first + reportEntry s at i .typ)) + n * 2 ^ 32 ≤ 2 ^ 64)
       → passes addUp rows (entriesFrom s first time at n k) ≡ false
   unfolding passes entriesFrom
   none-passes rows zero k o h = refl
@@ -63,13 +63,13 @@ module _ (s : List ℕ) (first time at : ℕ) where
       rw (lt-leb (2 ^ 64) (lifeOf (rowOf (addEntry addUp rows e) (e .key)))
       (omega (arith, raises rows e o (e .key), h k (omega arith), count-small s at k)))
       (none-passes (addEntry addUp rows e) n (suc k) (sorted-add addUp adding-key e rows o)
-      (λ i l. omega (arith, raises rows e o (first + entryOf s at i .typ), h i (omega arith), count-small s at k)))
+      (λ i l. omega (arith, raises rows e o (first + reportEntry s at i .typ), h i (omega arith), count-small s at k)))
 
 -- Entries with known rows may be added up
 
 module _ (cells : List ℕ) (g : Kept cells) (s : List ℕ) (first at n : ℕ) (places : List ℕ) (w : Known cells s first at n places) where
-  row-at : (i : ℕ) → i < n → rowOf (rowsOf cells) (first + entryOf s at i .typ) ≡ some (rowIn cells (getD places (entryOf s at i .typ) 0))
-  row-at i h = at-row cells g (first + entryOf s at i .typ) (getD places (entryOf s at i .typ) 0) (w .rows i h)
+  row-at : (i : ℕ) → i < n → rowOf (rowsOf cells) (first + reportEntry s at i .typ) ≡ some (rowIn cells (getD places (reportEntry s at i .typ) 0))
+  row-at i h = at-row cells g (first + reportEntry s at i .typ) (getD places (reportEntry s at i .typ) 0) (w .rows i h)
 
   pub known-adds : (time : ℕ) → (rowsFor (rowsOf cells) (entriesFrom s first time at n 0) ≤ 256)
       × (passes addUp (rowsOf cells) (entriesFrom s first time at n 0) ≡ false)
@@ -104,7 +104,7 @@ noted-none cells first = record {
 
 module _ (cells : List ℕ) (g : Kept cells) (first : ℕ) (places : List ℕ) where
   -- the rows from the first key's place on
-  pub note-none : Noted cells first places → (i : ℕ) → Found cells first i → NoteLoop cells first places i
+  pub note-none : Noted cells first places → (i : ℕ) → KeyPlace cells first i → NoteLoop cells first places i
   note-none w i f = record {
     noted = w;
     above = λ j l h. test (eqb i j)
@@ -123,10 +123,10 @@ module _ (cells : List ℕ) (g : Kept cells) (first : ℕ) (places : List ℕ) w
     note-mark t h inside same far =
         let here : t < length places = omega (arith, c .noted .long) in
         let own : (P : ℕ → ℕ → Type 0) → P t i → ((u : ℕ) → u < 256 → getD places u 0 < 256 → P u (getD places u 0))
-            → (u : ℕ) → u < 256 → getD (set places t i) u 0 < 256 → P u (getD (set places t i) u 0)
+        → (u : ℕ) → u < 256 → getD (set places t i) u 0 < 256 → P u (getD (set places t i) u 0)
         = λ P new old u l q. test (eqb t u)
-            (λ y. subst (λ v. P v (getD (set places t i) v 0)) (eqb-true t u y) (subst (P t) (sym (getD-set-same places t i 0 here)) new))
-            (λ n. let e = getD-set-other places t u i 0 (λ z. eqb-false t u n (sym z)) in subst (P u) (sym e) (old u l (rw e at q))) in
+        (λ y. subst (λ v. P v (getD (set places t i) v 0)) (eqb-true t u y) (subst (P t) (sym (getD-set-same places t i 0 here)) new))
+        (λ n. let e = getD-set-other places t u i 0 (λ z. eqb-false t u n (sym z)) in subst (P u) (sym e) (old u l (rw e at q))) in
         record {
           noted = record {
             long = length-set places t i ∙ c .noted .long;
@@ -140,20 +140,20 @@ module _ (cells : List ℕ) (g : Kept cells) (first : ℕ) (places : List ℕ) w
 
 -- the entries up to one have places
 abbrev pub Placed : List ℕ → ℕ → List ℕ → ℕ → Type 0
-Placed s at places i = (j : ℕ) → j < i → getD places (entryOf s at j .typ) 0 < 256
+Placed s at places i = (j : ℕ) → j < i → getD places (reportEntry s at j .typ) 0 < 256
 
 module _ (s : List ℕ) (at : ℕ) (places : List ℕ) (i : ℕ) (p : Placed s at places i) where
   -- an entry more
-  pub placed-more : (t : ℕ) → t ≡ entryOf s at i .typ → getD places t 0 < 256 → Placed s at places (i + 1)
-  placed-more t e h = below-more (λ j. getD places (entryOf s at j .typ) 0 < 256) i p (subst (λ u. getD places u 0 < 256) e h)
+  pub placed-more : (t : ℕ) → t ≡ reportEntry s at i .typ → getD places t 0 < 256 → Placed s at places (i + 1)
+  placed-more t e h = below-more (λ j. getD places (reportEntry s at j .typ) 0 < 256) i p (subst (λ u. getD places u 0 < 256) e h)
 
   -- at the end all are known
   pub placed-end : (cells : List ℕ) (first n : ℕ) → Noted cells first places → n < 256 → n ≤ i → Known cells s first at n places
   placed-end cells first n w few h = record {
     few = few;
     long = w .long;
-    rows = λ j l. w .rows (entryOf s at j .typ) (type-small s at j) (p j (omega arith));
-    far = λ j l. w .far (entryOf s at j .typ) (type-small s at j) (p j (omega arith));
+    rows = λ j l. w .rows (reportEntry s at j .typ) (type-small s at j) (p j (omega arith));
+    far = λ j l. w .far (reportEntry s at j .typ) (type-small s at j) (p j (omega arith));
   }
 
 -- `post_known`: an entry is added up at its row's place

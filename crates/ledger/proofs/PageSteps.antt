@@ -13,7 +13,7 @@ use Rattle.octets.proofs.Cases.{test}
 use Rattle.rows.specs.Rows.{Row, newRow}
 use Rattle.rows.specs.Order.{upto}
 use Rattle.rows.proofs.Numbers.{at-upto}
-use Rattle.ledger.specs.Ledgers.{cellCount, rowIn, countOf, cellsOf, putRow, answer, keepsRules}
+use Rattle.ledger.specs.Ledgers.{ledgerCells, rowIn, countOf, cellsOf, putRow, answer, keepsRules}
 use Rattle.ledger.specs.Pages.{pageLength, countIn, headKeeps, rowAt, cellsIn, loadOf}
 use Rattle.ledger.specs.declared.Answer.{Answer}
 use Rattle.ledger.proofs.CellLaws.{none-row, cells-are}
@@ -35,14 +35,14 @@ pub record Loaded (s : List ℕ) (n : ℕ) (cells : List ℕ) (i : ℕ) : Type 0
   pub few : n ≤ 256
   pub long : length s ≡ pageLength n
   pub within : i ≤ n
-  pub room : length cells ≡ cellCount
+  pub room : length cells ≡ ledgerCells
   pub count : countOf cells ≡ n
   pub done : (j : ℕ) → j < i → rowIn cells j ≡ rowAt s n j
   pub empty : (j : ℕ) → i ≤ j → j < 256 → rowIn cells j ≡ newRow 0
 
 module _ (s : List ℕ) (n : ℕ) where
   -- of cells that are all zero the row count was set
-  pub loaded-none : (b : Bool) → b ≡ headKeeps s → b ≡ true → n ≡ countIn s → Loaded s n (set (replicate cellCount 0) 0 n) 0
+  pub loaded-none : (b : Bool) → b ≡ headKeeps s → b ≡ true → n ≡ countIn s → Loaded s n (set (replicate ledgerCells 0) 0 n) 0
   loaded-none b e t is =
       let w = head-says s (sym e ∙ t) in
       record {
@@ -52,7 +52,7 @@ module _ (s : List ℕ) (n : ℕ) where
         room = refl;
         count = refl;
         done = λ j l. absurd (omega arith);
-        empty = λ j l m. set-count (replicate cellCount 0) n j ∙ none-row cellCount j;
+        empty = λ j l m. set-count (replicate ledgerCells 0) n j ∙ none-row ledgerCells j;
       }
 
   module _ (cells : List ℕ) (i : ℕ) (w : Loaded s n cells i) where

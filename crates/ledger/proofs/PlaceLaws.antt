@@ -15,7 +15,7 @@ use Rattle.rows.specs.Posting.{addEntry, Sorted}
 use Rattle.rows.proofs.Rows.{head-row, tail-row, before-none, row-own, length-add}
 use Rattle.rows.proofs.Theorems.{adding-key}
 use Rattle.ledger.specs.Ledgers.{rowIn, countOf, rowsOf, cellsOf, putRow}
-use Rattle.ledger.specs.Steps.{Kept, Found, RowAt}
+use Rattle.ledger.specs.Steps.{Kept, KeyPlace, RowAt}
 use Rattle.ledger.proofs.CellLaws.{rows-many, rows-get, kept-long, kept-rising}
 use Rattle.ledger.proofs.ChangeLaws.{put-head, put-own, put-other, set-row}
 
@@ -97,7 +97,7 @@ module _ (rule : Row → Entry → Row) where
 
 -- A place found among a ledger's rows
 
-module _ (cells : List ℕ) (k i : ℕ) (f : Found cells k i) where
+module _ (cells : List ℕ) (k i : ℕ) (f : KeyPlace cells k i) where
   -- it is a place among them
   found-placed : Placed (rowsOf cells) k i
   found-placed = record {
@@ -150,7 +150,7 @@ module _ (cells : List ℕ) (k i : ℕ) (f : Found cells k i) where
 -- A key that has its row at a place
 
 module _ (cells : List ℕ) (g : Kept cells) (k i : ℕ) (a : RowAt cells k i) where
-  at-found : Found cells k i
+  at-found : KeyPlace cells k i
   at-found = record {
     within = omega (arith, a .inside);
     below = λ j h. omega (arith, kept-rising cells g j i h (a .inside), a .same);
@@ -195,7 +195,7 @@ module _ (cells : List ℕ) (g : Kept cells) (e : Entry) where
   pub own-life : lifeOf (rowOf (addEntry addUp rows e) (e .key)) ≡ addUp (orNew (e .key) (rowOf rows (e .key))) e .life
   own-life = ap lifeOf (row-own addUp adding-key e rows (g .good .rises))
 
-  module _ (i : ℕ) (f : Found cells (e .key) i) (x : Row) (is : x ≡ addUp (orNew (e .key) (rowOf rows (e .key))) e) where
+  module _ (i : ℕ) (f : KeyPlace cells (e .key) i) (x : Row) (is : x ≡ addUp (orNew (e .key) (rowOf rows (e .key))) e) where
     -- the row changes
     pub put-adds : has (rowOf rows (e .key)) ≡ true → putRow cells i x ≡ cellsOf (addEntry addUp rows e)
     put-adds t =

@@ -1,5 +1,5 @@
 -- What a post does to a ledger: the rows' laws, at the ledger. Assumes nothing.
-use mathlib.Core.Bool.{true, false}
+use mathlib.Core.Bool.{false}
 use mathlib.Core.List.{List}
 use mathlib.Core.Path.{_≡_, ap, sym, _∙_, subst}
 use Prim.Native.Nat.{ℕ, _≤_}
@@ -58,10 +58,6 @@ module _ (s : List ℕ) (k : ℕ) where
     pub posted-same : (postOf cells s k .refusal ≡ 0 → ⊥) → posted cells ≡ cells
     posted-same h =
         test (keepsRules cells) (λ t. same-kept cells (kept-rules cells held t) h) (λ f. ap (λ (a : Answer). a .ledger .cells) (broken f))
-
-    -- a post keeps the rules
-    pub posted-rules : Octets s → keepsRules cells ≡ true → keepsRules (posted cells) ≡ true
-    posted-rules o t = rules-kept (posted cells) (posted-kept cells (kept-rules cells held t) o)
 
     -- no post lowers a life count
     pub posted-grows : (c : ℕ) → lifeOf (rowOf (rowsOf cells) c) ≤ lifeOf (rowOf (rowsOf (posted cells)) c)

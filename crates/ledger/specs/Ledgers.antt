@@ -21,20 +21,20 @@ head = 1
 abbrev pub wide : ℕ
 wide = 3
 
-abbrev pub cellCount : ℕ
-cellCount = head + wide * 256
+abbrev pub ledgerCells : ℕ
+ledgerCells = head + wide * 256
 
 abbrev pub rowCells : Row → List ℕ
 rowCells r = r .key ∷ r .life ∷ r .reading ∷ []
 
-abbrev pub placeAt : ℕ → ℕ
-placeAt i = head + wide * i
+abbrev pub rowPlace : ℕ → ℕ
+rowPlace i = head + wide * i
 
 abbrev pub rowIn : List ℕ → ℕ → Row
 rowIn cells i = record {
-  key = getD cells (placeAt i + 0) 0;
-  life = getD cells (placeAt i + 1) 0;
-  reading = getD cells (placeAt i + 2) 0;
+  key = getD cells (rowPlace i + 0) 0;
+  life = getD cells (rowPlace i + 1) 0;
+  reading = getD cells (rowPlace i + 2) 0;
 }
 
 -- the rows: of the first places, as many as the row count says
@@ -58,7 +58,7 @@ abbrev pub changed : (List Row → List Row) → List ℕ → List ℕ
 changed f cells = cellsOf (f (rowsOf cells))
 
 abbrev pub putRow : List ℕ → ℕ → Row → List ℕ
-putRow cells i r = sets cells (placeAt i) (rowCells r)
+putRow cells i r = sets cells (rowPlace i) (rowCells r)
 
 -- a row that is handed on, and a refusal with the ledger that goes with it
 abbrev pub asRow : CodeRow → Row
@@ -97,5 +97,5 @@ rulesRefusal cells = pick (keepsRules cells) 0 rulesBroken
 
 -- what the type says of every ledger: 769 cells, of 64 bits
 pub record Held (cells : List ℕ) : Type 0 where
-  pub long : length cells ≡ cellCount
+  pub long : length cells ≡ ledgerCells
   pub small : (i : ℕ) → getD cells i 0 < 2 ^ 64

@@ -3,7 +3,7 @@ use mathlib.Core.List.{List, [], _∷_}
 use Prim.Native.Nat.{ℕ, zero, suc, _+_}
 use Rattle.octets.specs.Choice.{pick}
 use Rattle.octets.specs.Refusals.{notStatistics}
-use Rattle.blocks.specs.Statistics.{isStatistics, statisticsOf, entryOf}
+use Rattle.blocks.specs.Statistics.{isStatistics, statisticsOf, reportEntry}
 use Rattle.blocks.specs.Steps.{stepBy, stepOf}
 use Rattle.blocks.specs.Walks.{readOf}
 use Rattle.blocks.specs.declared.record.Record.{Record}
@@ -22,7 +22,7 @@ firstKey r = keyOf (r .sac) (r .sic) (r .service) 0
 -- n entries from the k-th on, of those that lie from an offset, with the key of TYPE 0 and the record's time
 module _ (s : List ℕ) (first time at : ℕ) where
   abbrev pub entryAt : ℕ → Entry
-  entryAt k = record { key = first + entryOf s at k .typ; time = time; reference = entryOf s at k .reference; count = entryOf s at k .count }
+  entryAt k = record { key = first + reportEntry s at k .typ; time = time; reference = reportEntry s at k .reference; count = reportEntry s at k .count }
 
   unfoldable pub entriesFrom : ℕ → ℕ → List Entry
   entriesFrom zero k = []

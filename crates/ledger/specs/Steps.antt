@@ -3,7 +3,7 @@ use mathlib.Core.List.{List}
 use mathlib.Core.Path.{_≡_}
 use Prim.Native.Nat.{ℕ, _+_, _*_, _≤_, _<_, _^_}
 use lib.ListN.{length, getD}
-use Rattle.blocks.specs.Statistics.{entryOf}
+use Rattle.blocks.specs.Statistics.{reportEntry}
 use Rattle.blocks.specs.Steps.{entryGroupOf}
 use Rattle.blocks.specs.declared.record.Record.{Record}
 use Rattle.rows.specs.Rows.{Row, Entry}
@@ -42,7 +42,7 @@ pub record Lies (s : List ℕ) (t : Record) : Type 0 where
   pub styp : t .service .styp < 16
 
 -- the place of a key among the rows: every key before it is smaller, and the one there, if there is one, is not
-pub record Found (cells : List ℕ) (k i : ℕ) : Type 0 where
+pub record KeyPlace (cells : List ℕ) (k i : ℕ) : Type 0 where
   pub within : i ≤ countOf cells
   pub below : (j : ℕ) → j < i → rowIn cells j .key < k
   pub above : i < countOf cells → k ≤ rowIn cells i .key
@@ -62,5 +62,5 @@ pub record Noted (cells : List ℕ) (first : ℕ) (places : List ℕ) : Type 0 w
 pub record Known (cells s : List ℕ) (first at n : ℕ) (places : List ℕ) : Type 0 where
   pub few : n < 256
   pub long : length places ≡ 256
-  pub rows : (i : ℕ) → i < n → RowAt cells (first + entryOf s at i .typ) (getD places (entryOf s at i .typ) 0)
-  pub far : (i : ℕ) → i < n → rowIn cells (getD places (entryOf s at i .typ) 0) .life + 2 ^ 40 ≤ 2 ^ 64
+  pub rows : (i : ℕ) → i < n → RowAt cells (first + reportEntry s at i .typ) (getD places (reportEntry s at i .typ) 0)
+  pub far : (i : ℕ) → i < n → rowIn cells (getD places (reportEntry s at i .typ) 0) .life + 2 ^ 40 ≤ 2 ^ 64

@@ -14,6 +14,7 @@ use crate::Answer;
 use crate::Ledger;
 use crate::cells::CELLS;
 use crate::cells::COUNT;
+use crate::cells::ROWS;
 use crate::cells::Row;
 use crate::cells::count_of;
 use crate::cells::put_row;
@@ -38,7 +39,7 @@ fn is_headed(page: &[u8]) -> bool
         return false;
     }
     let n = read2(page, 0) as usize;
-    (n <= 256)
+    (n <= ROWS)
         & (read2(page, 2) == 8)
         & (read2(page, 4) as usize == 8 + 4 * n)
         & (read2(page, 6) as usize == 8 + 16 * n)

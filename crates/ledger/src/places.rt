@@ -8,7 +8,7 @@ ghost use lib.ListN.{length, take, drop};
 ghost use Rattle.rows.specs.Rows.{addUp, rowOf, has, lifeOf, orNew};
 ghost use Rattle.rows.specs.Posting.{addEntry};
 ghost use Rattle.ledger.specs.Ledgers.{rowIn, countOf, rowsOf, changed, putRow, asRow};
-ghost use Rattle.ledger.specs.Steps.{Kept, Found, entry};
+ghost use Rattle.ledger.specs.Steps.{Kept, KeyPlace, entry};
 use crate::cells::CELLS;
 use crate::cells::COUNT;
 use crate::cells::ROWS;
@@ -22,7 +22,7 @@ use crate::sums::is_past;
 // The first place whose key is at least `key`, or the row count.
 pub(crate) fn find(cells: &[u64; CELLS], key: u64) -> usize
     requires { ⌜ Kept (now cells) ⌝ }
-    ensures { λ r. ⌜ Found (now (cells .entry)) key r ⌝ }
+    ensures { λ r. ⌜ KeyPlace (now (cells .entry)) key r ⌝ }
 {
     let mut low: usize = 0;
     let mut high = count_of(cells);
@@ -40,7 +40,7 @@ pub(crate) fn find(cells: &[u64; CELLS], key: u64) -> usize
 
 // Whether a key has a row, at the place that was found for it.
 pub(crate) fn holds(cells: &[u64; CELLS], i: usize, key: u64) -> bool
-    requires { ⌜ Kept (now cells) × Found (now cells) key i ⌝ }
+    requires { ⌜ Kept (now cells) × KeyPlace (now cells) key i ⌝ }
     ensures { λ r. ⌜ r ≡ has (rowOf (rowsOf (now (cells .entry))) key) ⌝ }
 {
     if i >= count_of(cells) {
@@ -52,7 +52,7 @@ pub(crate) fn holds(cells: &[u64; CELLS], i: usize, key: u64) -> bool
 
 // A key's row, at the place that was found for it, or a new one.
 fn held(cells: &[u64; CELLS], i: usize, key: u64) -> Row
-    requires { ⌜ Kept (now cells) × Found (now cells) key i ⌝ }
+    requires { ⌜ Kept (now cells) × KeyPlace (now cells) key i ⌝ }
     ensures { λ r. ⌜ asRow r ≡ orNew key (rowOf (rowsOf (now (cells .entry))) key) ⌝ }
 {
     if holds(cells, i, key) {

@@ -231,9 +231,9 @@ fn step_to(s: &[u8], k: usize) -> Step
     cursor.step(s)
 }
 
-// Record k of a block posted to lent cells: 16, the reader's refusals, 17, 13, 14, 15. A refusal leaves the cells as they stood. For the next
-// layer: it asks for what the type says, which the checker does not hand through a reference.
-pub fn post_cells(cells: &mut [u64; CELLS], s: &[u8], k: usize) -> u8
+// Record k of a block posted to lent cells: 16, the reader's refusals, 17, 13, 14, 15. A refusal leaves the cells as they stood. It
+// asks for what the type says, which the checker does not hand through a reference.
+pub(crate) fn post_cells(cells: &mut [u64; CELLS], s: &[u8], k: usize) -> u8
     requires { ⌜ Held (now cells) ⌝ }
     ensures { λ r. ⌜ answer r (now (cells .exit)) ≡ postOf (now (cells .entry)) (now (s .entry)) k ⌝ }
 {

@@ -36,7 +36,7 @@ pub fn with_digit(n: usize, c: u8) -> Number
 }
 
 // The hex digit of the low half of an octet, in upper case.
-pub fn hex_digit(octet: u8) -> u8
+pub(crate) fn hex_digit(octet: u8) -> u8
     ensures { λ r. ⌜ (r ≡ hexDigit octet) × (hexValue r ≡ octet % 16) ⌝ }
 {
     let half = octet % 16;

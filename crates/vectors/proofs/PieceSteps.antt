@@ -7,7 +7,7 @@ use native.Mathlib.Omega.{arith}
 use lib.ListN.{length, take, drop, replicate, length-take, length-drop}
 use Rattle.octets.specs.Numbers.{Octets}
 use Rattle.octets.proofs.Parts.{Octets-drop, Octets-take}
-use Rattle.ledger.specs.Ledgers.{cellCount, rowsOf, cellsOf}
+use Rattle.ledger.specs.Ledgers.{ledgerCells, rowsOf, cellsOf}
 use Rattle.ledger.specs.Steps.{Kept}
 use Rattle.ledger.proofs.CellLaws.{kept-of, ruled-none, fresh-cells}
 use Rattle.feed.specs.Runs.{state, runOver, doneOf}
@@ -17,7 +17,7 @@ use Rattle.feed.proofs.KeptRuns.{kept-run}
 use Rattle.feed.proofs.RunEnds.{done-within}
 
 -- cells of zeros keep the rules
-pub fresh-kept : Kept (replicate cellCount 0)
+pub fresh-kept : Kept (replicate ledgerCells 0)
 fresh-kept = subst Kept (sym fresh-cells) (kept-of [] ruled-none)
 
 -- so many octets have come; those from an offset on wait, and the ledger keeps the rules

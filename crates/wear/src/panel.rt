@@ -6,21 +6,12 @@ use ledger::cells::CELLS;
 use ledger::cells::count_of;
 use ledger::cells::row_at;
 
-// The four octets of a key.
-fn octets_of(key: u32) -> [u8; 4] {
-    [
-        (key / 16777216) as u8,
-        (key / 65536 % 256) as u8,
-        (key / 256 % 256) as u8,
-        (key % 256) as u8,
-    ]
-}
-
 // A row: the key in 8 hex digits, life count and reading.
 fn row(text: &mut [u8], held: usize, key: u32, life: u64, reading: u64) -> usize {
-    let octets = octets_of(key);
+    let mut spelled = [0u8; 4];
+    octets::write4(&mut spelled, 0, key);
     let values = [life, reading];
-    let at = text::hex(text, held, &octets);
+    let at = text::hex(text, held, &spelled);
     let end = text::more(text, at, &values);
     text::emit(text, end, b'\n')
 }

@@ -1,5 +1,5 @@
 -- What refuses a typed record for writing (01 "Writing one record as a block"): 2, 6, 5, then by item 7, 8, 11; then 10.
-use mathlib.Core.Bool.{Bool, false}
+use mathlib.Core.Bool.{Bool}
 use mathlib.Core.List.{List, [], _∷_}
 use Prim.Native.Nat.{ℕ, _+_, _*_}
 use lib.Dec.{eqb}
@@ -10,7 +10,7 @@ use Rattle.layouts.specs.Categories.{known, category}
 use Rattle.layouts.specs.declared.form.Form.{Form}
 use Rattle.items.specs.Typed.{itemRefusal}
 use Rattle.items.specs.declared.item.Size.{Size}
-use Rattle.blocks.specs.Marks.{flagsOf}
+use Rattle.blocks.specs.Marks.{flagsOf, marked}
 use Rattle.blocks.specs.Records.{formats, marksRefusal, present, putItems, putRec}
 use Rattle.blocks.specs.Meaning.{itemIn, sevens, valuesOf, recOf}
 use Rattle.blocks.specs.declared.record.Record.{Record}
@@ -21,7 +21,7 @@ orElse n m = pick (eqb n 0) m n
 
 -- the record's type: the value of item 000, field 2, where it is marked; category 242 has none
 abbrev pub markedType : ℕ → ℕ → ℕ → ℕ
-markedType cat marks kind = pick (eqb cat 242) 0 (pick (getD (flagsOf 32 marks) 1 false) kind 0)
+markedType cat marks type = pick (eqb cat 242) 0 (pick (marked marks 2) type 0)
 
 -- a specification octet of the low seven marks, and FX
 abbrev pub specificationOctet : ℕ → Bool → ℕ

@@ -7,15 +7,13 @@ use Rattle.doors.proofs.posted_page.Tie as tie
 
 returns : tie.Need-returns
 returns c =
-    let s = says-no _ _ _ (load-refused _ _ _ (c .before .before .load .ensures) (c .if1 .taken)) in
-    (s .0, s .2)
+    says-no _ _ _ (load-refused _ _ _ (c .before .before .load .ensures) (c .if1 .taken))
 
 returns-2 : tie.Need-returns-2
 returns-2 c =
     let p = c .before .before in
     let i = p .before .before in
-    let s = says-no _ _ _ (post-refused _ _ _ (i .before .before .load .ensures) (i .if1 .left) (p .post .ensures) (c .if2 .taken)) in
-    (s .0, s .2)
+    says-no _ _ _ (post-refused _ _ _ (i .before .before .load .ensures) (i .if1 .left) (p .post .ensures) (c .if2 .taken))
 
 returns-3 : tie.Need-returns-3
 returns-3 c =
@@ -23,7 +21,7 @@ returns-3 c =
     let p = t .before .before .before .before .before in
     let i = p .before .before in
     rw (post-stored _ _ _ (i .before .before .load .ensures) (i .if1 .left) (p .post .ensures) (t .before .before .before .if2 .left))
-    (t .store .ensures .0, t .store .ensures .2)
+    (t .store .ensures)
 
 pub posted-page-spec : {M : Type 1} → statement M
 posted-page-spec =

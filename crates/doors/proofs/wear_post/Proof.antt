@@ -17,7 +17,7 @@ returns-2 c =
     let w = c .before .before .before .before .before .before in
     let a = w .before .before .before .before .before .before .before .args in
     put-all _ _ _ (pagePosted (a .page .now) (a .s .now) (a .k)) (le-ltb _ 1 (w .before .before .if1 .left)) _ refl
-    (w .posted-page .ensures .0) (w .posted-page .ensures .1) (c .before .before .put-out .ensures)
+    (w .posted-page .ensures .0) (w .posted-page .ensures .2) (c .before .before .put-out .ensures)
 
 pub wear-post-spec : {M : Type 1} → statement M
 wear-post-spec =

@@ -7,12 +7,12 @@ use Rattle.blocks.proofs.presence.is_present.Tie as tie
 returns : tie.Need-returns
 returns c =
     let a = c .before .before .before .before .args in
-    cc (needs-65 (a .kind) (a .marks) (a .cat) (c .before .if1 .taken))
+    cc (needs-65 (a .message-type) (a .marks) (a .cat) (c .before .if1 .taken))
 
 returns-2 : tie.Need-returns-2
 returns-2 c =
     let a = c .before .before .before .args in
-    cc (needs-other (a .kind) (a .marks) (a .cat) (c .if1 .left))
+    cc (needs-other (a .message-type) (a .marks) (a .cat) (c .if1 .left))
 
 pub is-present-spec : {M : Type 1} → statement M
 is-present-spec =

@@ -11,6 +11,6 @@ source-at-spec =
     tie.close
     (tie.spec
     (λ c κs. search needs)
+    (λ c. search needs)
     (λ c κs. search needs)
-    (λ c κs. search needs)
-    (λ c. c .source-of .ensures ∙ rw (c .before .read .ensures .0, c .before .before .first-octets .ensures)))
+    (λ c. c .source-of .ensures ∙ rw (c .before .read2 .ensures)))

@@ -1,7 +1,6 @@
 -- `again` reads below the slice's length only. The loop's invariant: the slice keeps its length. Assumes nothing.
 use mathlib.Core.Path.{_≡_}
 use Prim.Native.Nat.{_-_}
-use native.Mathlib.Omega.{arith}
 use lib.ListN.{length}
 use borrow.Author.Needs.{needs}
 use Rattle.vectors.proofs.store.again.Statement.{statement}
