@@ -98,7 +98,7 @@ fn add_all(cells: &mut [u64; CELLS], s: &[u8], first: u64, at: usize, n: usize) 
     false
 }
 
-// From here on a life count could pass by a report, which adds less than 2^40.
+// Below this no report brings a life count to its end: it adds less than 2^40.
 const NEAR: u64 = 0xFFFF_FF00_0000_0000;
 
 // The place of a row that is not noted: past the last.

@@ -1,0 +1,7 @@
+-- `is_row_kept`: the three tests are the definition's. Assumes nothing.
+use mathlib.Core.Path.{refl}
+use Rattle.ledger.proofs.rules.is_row_kept.Statement.{statement}
+use Rattle.ledger.proofs.rules.is_row_kept.Tie as tie
+
+pub is-row-kept-spec : {M : Type 1} → statement M
+is-row-kept-spec = tie.close (tie.spec (λ c. refl))
