@@ -21,7 +21,7 @@ use Rattle.layouts.proofs.Parsed.{OfGot, of-pick}
 use Rattle.layouts.proofs.KindEnds.{none-left, end-then}
 use Rattle.blocks.specs.Specification.{flags}
 use Rattle.layouts.specs.Presence.{FieldNeed, meets}
-use Rattle.blocks.specs.Marks.{marksOf, flagsOf, groupsOf}
+use Rattle.blocks.specs.Marks.{marksOf, flagsOf, groupsOf, marked as isMarked}
 use Rattle.blocks.specs.Records.{formats, marksSpare, unmarked, flagsRefusal, marksRefusal}
 use Rattle.blocks.specs.Offsets.{specificationAt}
 
@@ -49,6 +49,11 @@ unfolding flagsOf
 flags-at zero m i h = absurd (omega arith)
 flags-at (suc n) m zero h = rw div-one
 flags-at (suc n) m (suc i) h = rw (flags-at n (m / 2) i (omega arith), div-div-eq-div-mul, pow-succ')
+
+-- the fields are counted from 1, their marks from 0
+pub marked-at : (m f : ℕ) → 1 ≤ f → isMarked m f ≡ getD (flagsOf 32 m) (f - 1) false
+marked-at m zero h = absurd (omega arith)
+marked-at m (suc f) h = let e : suc f - 1 ≡ f = omega arith in rw e
 
 -- a mark in front: it is the low bit, and the others are the half
 pub first-mark : (b : Bool) (m : ℕ) → (odd (pick b 1 0 + m * 2) ≡ b) × ((pick b 1 0 + m * 2) / 2 ≡ m)

@@ -1,12 +1,12 @@
 // The marks of a record's fields as a number: bit f - 1 for field f.
 ghost use mathlib.Core.Path.{_≡_};
-ghost use mathlib.Core.Bool.{true, false};
+ghost use mathlib.Core.Bool.{true};
 ghost use mathlib.Core.List.{[], _∷_};
 ghost use Prim.Native.Nat.{_+_, _*_, _-_, _/_, _≤_, _<_};
-ghost use lib.ListN.{length, getD, drop};
+ghost use lib.ListN.{length, drop};
 ghost use Rattle.layouts.specs.Categories.{category, known};
 ghost use Rattle.blocks.specs.Specification.{flags};
-ghost use Rattle.blocks.specs.Marks.{marksOf, flagsOf, groupsOf, nextMarked};
+ghost use Rattle.blocks.specs.Marks.{marksOf, flagsOf, marked, groupsOf, nextMarked};
 ghost use Rattle.blocks.specs.Records.{marksSpare, marksRefusal};
 use octets::refusal;
 
@@ -40,7 +40,7 @@ pub(crate) fn marks_at(s: &[u8], at: usize, n: usize) -> u32
 // Whether a field is marked. Only for the next layer: a field from 1 to 32.
 pub fn is_marked(marks: u32, field: usize) -> bool
     requires { ⌜ (1 ≤ field) × (field ≤ 32) ⌝ }
-    ensures { λ r. ⌜ r ≡ getD (flagsOf 32 marks) (field - 1) false ⌝ }
+    ensures { λ r. ⌜ r ≡ marked marks field ⌝ }
 {
     (marks >> (field - 1)) % 2 == 1
 }

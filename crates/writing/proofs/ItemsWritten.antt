@@ -26,9 +26,10 @@ use Rattle.items.specs.declared.typed.Item.the-variants as item
 use Rattle.items.proofs.ReadBack.{item-fits}
 use Rattle.items.proofs.Judged.{room-of}
 use Rattle.items.proofs.Written.{lengthBy, length-at}
-use Rattle.blocks.specs.Marks.{flagsOf}
+use Rattle.blocks.specs.Marks.{flagsOf, marked}
 use Rattle.blocks.specs.Records.{formats, putItems}
 use Rattle.blocks.proofs.GoodRecords.{itemsFit}
+use Rattle.blocks.proofs.MarksLaws.{marked-at}
 use Rattle.blocks.specs.Meaning.{itemIn, valuesOf}
 use Rattle.blocks.specs.declared.record.Record.{Record}
 use Rattle.writing.specs.Judged.{orElse, itemsRefusal, octetsOf, itemsSize, flags, fields, itemsOctets}
@@ -340,17 +341,21 @@ module _ (s : List ℕ) (t : Record) where
         → (out ≡ laid out₀ at (itemsOctets s t)) × (p ≡ at + length (itemsOctets s t))
     fields-laid out₀ at out p f w past = laid-all s t (flags s t) (fields s t) out₀ at out p f w (omega arith)
 
-    module _ (f : ℕ) (more : f ≤ last) (b : Bool) (is : b ≡ getD (flags s t) (f - 1) false) where
+    module _ (f : ℕ) (more : f ≤ last) (b : Bool) (is : b ≡ marked (t .marks) f) where
+      -- its mark in the list
+      mark : 1 ≤ f → b ≡ getD (flags s t) (f - 1) false
+      mark low = is ∙ marked-at (t .marks) f low
+
       inside : f ≤ length (fields s t)
       inside = omega arith
 
       module _ (total : ℕ) (w : CountedFields total f) where
         pub field-uncounted : b ≡ false → CountedFields total (f + 1)
-        field-uncounted = counted-skipped s t (flags s t) (fields s t) total f w inside marks-enough b is
+        field-uncounted = counted-skipped s t (flags s t) (fields s t) total f w inside marks-enough b (mark (w .low))
 
       module _ (out₀ : List ℕ) (at : ℕ) (out : List ℕ) (p : ℕ) (w : LaidFields out₀ at out p f) where
         pub field-unlaid : b ≡ false → LaidFields out₀ at out p (f + 1)
-        field-unlaid = laid-skipped s t (flags s t) (fields s t) out₀ at out p f w inside marks-enough b is
+        field-unlaid = laid-skipped s t (flags s t) (fields s t) out₀ at out p f w inside marks-enough b (mark (w .low))
 
       -- what stands at the field, and its item
       module _ (e : b ≡ true) (x : Field) (i : Item) (at-f : x ≡ fieldAt (category (t .category)) f) (of-t : i ≡ itemIn t (x .0)) where
@@ -362,23 +367,23 @@ module _ (s : List ℕ) (t : Record) where
           size-here z h = ap (sizeOf s) (sym here) ∙ sym told ∙ h
 
           pub field-counted : r ≡ Size.Octets n → CountedFields (total + n) (f + 1)
-          field-counted h = counted-passed s t (flags s t) (fields s t) total f w inside marks-enough b is e n (size-here (Size.Octets n) h)
+          field-counted h = counted-passed s t (flags s t) (fields s t) total f w inside marks-enough b (mark (w .low)) e n (size-here (Size.Octets n) h)
 
           pub field-refused : r ≡ Size.Refused n → Size.Refused n ≡ itemsSize s t (flags s t) (fields s t)
-          field-refused h = counted-refused s t (flags s t) (fields s t) total f w inside marks-enough b is e n (size-here (Size.Refused n) h)
+          field-refused h = counted-refused s t (flags s t) (fields s t) total f w inside marks-enough b (mark (w .low)) e n (size-here (Size.Refused n) h)
 
         module _ (out₀ : List ℕ) (at : ℕ) (out : List ℕ) (p : ℕ) (w : LaidFields out₀ at out p f) (enough : at + length (itemsOctets s t) ≤ length out₀) where
           -- the item is one that can be written there
           pub field-fits : (itemRefusal s i ≡ 0) × (p + length (itemOctets s i) ≤ length out)
           field-fits = rw here (
-            laid-accepts s t (flags s t) (fields s t) out₀ at out p f w inside marks-enough b is e enough,
-            laid-room s t (flags s t) (fields s t) out₀ at out p f w inside marks-enough b is e enough,
+            laid-accepts s t (flags s t) (fields s t) out₀ at out p f w inside marks-enough b (mark (w .low)) e enough,
+            laid-room s t (flags s t) (fields s t) out₀ at out p f w inside marks-enough b (mark (w .low)) e enough,
           )
 
           pub field-laid : (out' : List ℕ) (q : ℕ) → (out' ≡ laid out p (itemOctets s i)) × (q ≡ p + length (itemOctets s i)) → LaidFields out₀ at out' q (f + 1)
           field-laid out' q h =
               let g = rw here at h in
-              laid-passed s t (flags s t) (fields s t) out₀ at out p f w inside marks-enough b is e enough out' q (g .0) (g .1)
+              laid-passed s t (flags s t) (fields s t) out₀ at out p f w inside marks-enough b (mark (w .low)) e enough out' q (g .0) (g .1)
 
 -- what stands at a field is the field of its item
 pub field-here : (t : Record) (g : Form) (x : Field) (i : Item) → x ≡ record { 0 = g; 1 = kindOf (layout g) } → i ≡ itemIn t (x .0) → x ≡ fieldOf i
