@@ -1,21 +1,17 @@
--- Numbers that are read from bits are below what these hold: TYPE and count of an entry, SAC and SIC of a record that a step hands out.
+-- Numbers that are read from bits are below what these hold: TYPE and count of an entry; SAC, SIC, SID and STYP of a record that a step hands out.
 -- Assumes nothing.
 use mathlib.Core.Path.{_≡_, sym}
-use mathlib.Core.Bool.{true}
 use mathlib.Core.List.{List}
-use Prim.Native.Nat.{ℕ, _<_, _≤_, _^_}
+use Prim.Native.Nat.{ℕ, _<_, _^_}
 use native.Mathlib.Nat.{mod-lt}
 use native.Mathlib.Omega.{arith}
-use lib.ListN.{length}
 use Rattle.octets.specs.Numbers.{Octets}
 use Rattle.layouts.specs.Groups.{values}
 use Rattle.layouts.specs.Offsets.{traceAt}
 use Rattle.layouts.specs.Layouts.{format}
 use Rattle.layouts.specs.Tables.{layout}
-use Rattle.layouts.specs.Categories.{known}
 use Rattle.layouts.specs.declared.form.Form.{Form}
-use Rattle.items.specs.Typed.{sourceOf}
-use Rattle.items.specs.declared.typed.Source.{Source}
+use Rattle.items.specs.Typed.{sourceOf, serviceOf}
 use Rattle.blocks.specs.Statistics.{reportEntry}
 use Rattle.blocks.specs.Steps.{stepOf}
 use Rattle.blocks.specs.Typed.{typedRec}
@@ -23,7 +19,7 @@ use Rattle.blocks.specs.declared.cursor.Cursor.{Cursor}
 use Rattle.blocks.specs.declared.cursor.Step.{Step}
 use Rattle.blocks.specs.declared.record.Record.{Record}
 use Rattle.blocks.proofs.HeaderLaws.{header-good}
-use Rattle.blocks.proofs.StepLaws.{Taking, step-took}
+use Rattle.blocks.proofs.StepLaws.{step-took}
 use Rattle.blocks.proofs.TypedLaws.{form-values}
 
 -- an entry, of octets or not
@@ -35,23 +31,24 @@ pub count-small : (s : List ℕ) (at k : ℕ) → reportEntry s at k .count < 2 
 unfolding values
 count-small s at k = mod-lt _ (omega arith)
 
--- the source of a record
-abbrev Small : Source → Type 0
-Small x = (x .sac < 256) × (x .sic < 256)
-
-bits-small : (s : List ℕ) (at : ℕ) → Small (sourceOf (traceAt (format (layout Form.Source)) s at))
+-- a source and a service, of octets or not
+source-bits : (s : List ℕ) (at : ℕ) → let x = sourceOf (traceAt (format (layout Form.Source)) s at) in (x .sac < 256) × (x .sic < 256)
 unfolding traceAt format values
-bits-small s at = (mod-lt _ (omega arith), mod-lt _ (omega arith))
+source-bits s at = (mod-lt _ (omega arith), mod-lt _ (omega arith))
 
-taking-small : (s : List ℕ) (len cat at : ℕ) (t : Record) (next : ℕ) → len ≤ length s → known cat ≡ true → Octets s
-    → Taking s len cat at t next → Small (t .source)
+pub service-bits : (s : List ℕ) (at : ℕ) → let x = serviceOf (traceAt (format (layout Form.Service)) s at) in (x .sid < 16) × (x .styp < 16)
+unfolding traceAt format values
+service-bits s at = (mod-lt _ (omega arith), mod-lt _ (omega arith))
+
+-- and so those of every record that a step hands out
+pub step-small : (s : List ℕ) (start : ℕ) (t : Record) (c : Cursor) → Octets s → Step.Taken t c ≡ stepOf s start
+    → ((t .source .sac < 256) × (t .source .sic < 256)) × ((t .service .sid < 16) × (t .service .styp < 16))
 unfolding typedRec
-taking-small s len cat at t next fit k o w =
-    let (x, h) = form-values s len cat at o fit k (w .r) next (w .is) Form.Source in
-    rw (w .same, ← h 0 0, ← h 0 1) (bits-small s x)
-
-pub source-small : (s : List ℕ) (start : ℕ) (t : Record) (c : Cursor) → Octets s → Step.Taken t c ≡ stepOf s start → Small (t .source)
-source-small s start t c o h =
+step-small s start t c o h =
     let w = step-took s start t c (sym h) in
     let g = header-good s (w .cat) (w .len) (w .head) in
-    taking-small s (w .len) (w .cat) start t (c .at) (g .fits) (g .known) o (w .taking)
+    let y = w .taking in
+    let values = form-values s (w .len) (w .cat) start o (g .fits) (g .known) (y .r) (c .at) (y .is) in
+    let (x, a) = values Form.Source in
+    let (z, b) = values Form.Service in
+    (rw (y .same, ← a 0 0, ← a 0 1) (source-bits s x), rw (y .same, ← b 0 0, ← b 0 1) (service-bits s z))

@@ -14,7 +14,7 @@ use Rattle.blocks.specs.declared.walk.Reading.{Reading}
 use Rattle.blocks.specs.declared.walk.Reading.the-variants as reading
 use Rattle.blocks.proofs.HeaderLaws.{header-good}
 use Rattle.blocks.proofs.TakenLaws.{accepted-head}
-use Rattle.feed.specs.Blocks.{lenOf, counts, judgedBy, judged, nextOf, listedNext, nextListed}
+use Rattle.feed.specs.Blocks.{lenOf, tally, judgedBy, judged, nextOf, listedNext, nextListed}
 use Rattle.feed.specs.declared.block.Next.{Next}
 use Rattle.feed.specs.declared.block.Next.the-variants as next
 
@@ -69,7 +69,7 @@ module _ (s : List ℕ) (over : Bool) where
       (λ a. rw a (test (ltb (lenOf s) 4) (λ b. rw b)
       (λ b. rw b (test (ltb (length s) (lenOf s)) (λ d. rw d (test over (λ o. rw o) (λ o. rw o))) (λ d. rw d (listed (readOf s)))))))
     where
-      listed : (r : Reading) → listedNext (judged (lenOf s) r) ≡ judgedBy (counts 1 0) (counts 0 1) (lenOf s) r
+      listed : (r : Reading) → listedNext (judged (lenOf s) r) ≡ judgedBy (tally 1 0) (tally 0 1) (lenOf s) r
       listed (reading.Accepted l n) = refl
       listed (reading.Refused n at) = refl
 

@@ -46,18 +46,18 @@ pub record NextListed : Type 0 where
   pub refused : ℕ
   pub octets : ℕ
 
-abbrev pub counts : ℕ → ℕ → ℕ → NextListed
-counts accepted refused octets = record { accepted = accepted; refused = refused; octets = octets }
+abbrev pub tally : ℕ → ℕ → ℕ → NextListed
+tally accepted refused octets = record { accepted = accepted; refused = refused; octets = octets }
 
 abbrev pub listedNext : Next → NextListed
-listedNext (next.Accepted len) = counts 1 0 len
-listedNext (next.Skipped len) = counts 0 1 len
-listedNext next.Ended = counts 0 0 0
-listedNext next.Stopped = counts 0 1 0
-listedNext next.More = counts 0 0 0
+listedNext (next.Accepted len) = tally 1 0 len
+listedNext (next.Skipped len) = tally 0 1 len
+listedNext next.Ended = tally 0 0 0
+listedNext next.Stopped = tally 0 1 0
+listedNext next.More = tally 0 0 0
 
 unfoldable pub nextListed : List ℕ → Bool → NextListed
-nextListed = nextBy (counts 1 0) (counts 0 1) (counts 0 0 0) (counts 0 1 0) (counts 0 0 0)
+nextListed = nextBy (tally 1 0) (tally 0 1) (tally 0 0 0) (tally 0 1 0) (tally 0 0 0)
 
 -- The reports of a block's records, as steps visit them; n at most
 unfoldable pub reportsFrom : List ℕ → ℕ → ℕ → List Report

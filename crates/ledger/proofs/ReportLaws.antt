@@ -16,9 +16,8 @@ use Rattle.blocks.specs.declared.cursor.Step.{Step}
 use Rattle.blocks.specs.declared.cursor.Step.the-variants as step
 use Rattle.blocks.specs.declared.statistics.Statistics.{Statistics}
 use Rattle.blocks.specs.declared.walk.Reading.{Reading}
-use Rattle.blocks.proofs.SmallLaws.{source-small}
+use Rattle.blocks.proofs.SmallLaws.{step-small}
 use Rattle.blocks.proofs.StepLaws.{not-taken, ofStep, by-step, entries-room}
-use Rattle.blocks.proofs.TakenLaws.{step-narrow}
 use Rattle.rows.specs.Posting.{refused, counts}
 use Rattle.ledger.specs.Reports.{entriesAt, reportIn, stepAt, reportOf}
 use Rattle.ledger.specs.Steps.{InOctets, Lies}
@@ -27,9 +26,8 @@ use Rattle.ledger.specs.Steps.{InOctets, Lies}
 
 pub lies : (s : List ℕ) (start : ℕ) (t : Record) (c : Cursor) → Octets s → Step.Taken t c ≡ stepOf s start → Lies s t
 lies s start t c o h =
-    let w = source-small s start t c o h in
-    let n = step-narrow s start t c o h in
-    record { room = entries-room s start t c o h; sac = w .0; sic = w .1; sid = n .0; styp = n .1 }
+    let w = step-small s start t c o h in
+    record { room = entries-room s start t c o h; sac = w .0 .0; sic = w .0 .1; sid = w .1 .0; styp = w .1 .1 }
 
 -- Record k from a start: a step first, and then record k - 1 from where the step ended
 module _ (s : List ℕ) where

@@ -3,7 +3,7 @@ use mathlib.Core.Path.{sym, _∙_}
 use borrow.Author.Needs.{needs}
 use borrow.Author.Tests.{not-true, not-false}
 use Rattle.blocks.proofs.AtEnd.{octet-type}
-use Rattle.blocks.proofs.TakenLaws.{service-narrow}
+use Rattle.blocks.proofs.SmallLaws.{service-bits}
 use Rattle.blocks.proofs.SeenLaws.{sees-other, sees-report}
 use Rattle.blocks.proofs.statistics.see.Statement.{statement}
 use Rattle.blocks.proofs.statistics.see.Tie as tie
@@ -54,5 +54,5 @@ see-spec =
     (λ c κs. rw (c .start-of3 .ensures) (c .before .before .before .before .before .before .before .before .starts-at .ensures .1 3))
     (λ c κs. search needs)
     (λ c κs. rw (c .start-of4 .ensures) (c .before .before .before .before .before .before .before .before .before .before .starts-at .ensures .1 13))
-    (λ c κs. rw (c .before .before .service-at .ensures) (service-narrow _ _))
+    (λ c κs. rw (c .before .before .service-at .ensures) (service-bits _ _))
     returns-2)
