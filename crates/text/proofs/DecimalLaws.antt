@@ -1,10 +1,13 @@
--- The digits that io gives a number, no more than hold it, are the number in decimal. Assumes nothing.
+-- The digits that io gives a number, no more than hold it, are the number in decimal; how many they are. Assumes nothing.
 use mathlib.Core.Path.{_≡_, ap}
 use mathlib.Core.List.{List, [], _∷_, _++_}
 use Prim.Native.Nat.{ℕ, zero, suc, _+_, _/_, _%_, _^_, _≤_, _<_}
 use native.Mathlib.Numerals.{sub-one}
 use native.Mathlib.Omega.{arith}
+use lib.Dec.{ltb}
+use lib.ListN.{length, length-append}
 use borrow.Author.Tests.{lt-ltb, le-ltb}
+use Rattle.octets.proofs.Cases.{test}
 use Rattle.io.specs.Digits.{glyph, digits, Fewest}
 use Rattle.text.specs.Digits.{decimalWithin, decimal}
 
@@ -30,3 +33,17 @@ digits-within (suc m) n (suc (suc j)) l h =
 
 pub decimal-digits : (n k : ℕ) → Fewest 10 1 n k → digits 10 k n ≡ decimal n
 decimal-digits n k h = digits-within (suc n) n k (omega arith) h
+
+-- a number below 10^k has k digits at the most
+within-short : (m n k : ℕ) → 1 ≤ k → n < 10 ^ k → length (decimalWithin m n) ≤ k
+unfolding decimalWithin
+within-short zero n k l h = omega arith
+within-short (suc m) n zero l h = absurd (omega arith)
+within-short (suc m) n (suc zero) l h = rw (lt-ltb n 10 (omega arith)) (omega arith)
+within-short (suc m) n (suc (suc j)) l h =
+    test (ltb n 10) (λ t. rw t (omega arith))
+    (λ f. rw (f, length-append) (omega (arith, within-short m (n / 10) (suc j) (omega arith) (omega arith))))
+
+-- one of 64 bits has 20
+pub decimal-short : (n : ℕ) → n < 2 ^ 64 → length (decimal n) ≤ 20
+decimal-short n h = within-short (suc n) n 20 (omega arith) (omega arith)

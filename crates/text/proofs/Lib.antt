@@ -1,3 +1,4 @@
 pub mod GatheredLaws
 pub mod DecimalLaws
 pub mod Examples
+pub mod SentenceLaws

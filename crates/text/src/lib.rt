@@ -1,11 +1,12 @@
 // Text that a program writes to standard output, gathered so that one call writes much.
 ghost use mathlib.Core.Path.{_≡_};
-ghost use mathlib.Core.List.{flatMap};
+ghost use mathlib.Core.List.{_++_, flatMap};
 ghost use Rattle.text.specs.Gathered.{gathered, putOne, putAll};
 ghost use Rattle.text.specs.Digits.{decimal, blankNumber, hexPair};
 use crate::digits::hex_digit;
 
 pub mod digits;
+pub mod refusals;
 
 // Writes what is gathered; gathering then begins anew.
 pub fn flush(text: &[u8], held: usize) -> usize
@@ -52,6 +53,14 @@ pub fn number(text: &mut [u8], held: usize, n: u64) -> usize
     let mut digits = [0u8; 20];
     let k = io::decimal(n, &mut digits);
     emit_all(text, held, &digits[..k])
+}
+
+// A word and a number.
+pub fn word_number(text: &mut [u8], held: usize, word: &[u8], n: u64) -> usize
+    ensures { λ r. ⌜ gathered (now (text .exit)) r ≡ putAll (gathered (now (text .entry)) held) (now (word .entry) ++ decimal n) ⌝ }
+{
+    let at = emit_all(text, held, word);
+    number(text, at, n)
 }
 
 // More numbers, with a blank before each.
