@@ -4,12 +4,13 @@ use mathlib.Core.Path.{_≡_, refl, sym, ap, _∙_, subst}
 use Prim.Native.Nat.{ℕ, _+_, _-_, _≤_, _<_, _^_}
 use native.Mathlib.Omega.{arith}
 use borrow.Author.Tests.{ltb-true, eq-eqb, ne-eqb}
-use lib.Dec.{T}
+use lib.Dec.{T, leb}
 use lib.IntN.{ℤ, pos, negsuc, natAbs}
 use lib.Signed.{ltZ, nonNeg}
 use mir.Syntax.{w64}
 use mir.Val.{Fits, SFits}
 use Rattle.libc.specs.Io.{Moved}
+use Rattle.octets.proofs.Cases.{choose}
 use Rattle.feed.specs.Totals.{up}
 use Rattle.feed.proofs.TotalLaws.{up-low, up-high}
 use Rattle.wear.specs.Turns.{heard, unheard, inputOf, Heard}
@@ -80,3 +81,15 @@ failed-said before told (negsuc k) e = cc
 
 pub failed-heard : (room : ℕ) (before told : Reads) (x : Input) → x ≡ Input.Failed told → Heard room before x → told ≡ unheard before
 failed-heard room before told x e w = failed-said before told (w .got) (sym e ∙ w .said)
+
+-- an account does not shrink
+up-least : (n k : ℕ) → n < 2 ^ 64 → n ≤ up n k
+up-least n k h = choose (λ x. n ≤ x) (leb (2 ^ 64) (n + k)) (λ t. omega arith) (λ f. omega arith)
+
+pub failed-more : (room : ℕ) (before told : Reads) (x : Input) → x ≡ Input.Failed told → Heard room before x → before .octets ≤ told .octets
+failed-more room before told x e w = omega (arith, ap (λ r. r .octets) (failed-heard room before told x e w))
+
+pub came-more : (room : ℕ) (before told : Reads) (n : ℕ) (x : Input) → before .octets < 2 ^ 64 → x ≡ Input.Came n told → Heard room before x
+    → before .octets ≤ told .octets
+came-more room before told n x h e w =
+    omega (arith, ap (λ r. r .octets) (came-heard room before told n x e w .1), up-least (before .octets) n h)

@@ -1,7 +1,7 @@
 -- Turn after turn: the octets that have come, and the run over them. Assumes nothing.
 use mathlib.Core.Bool.{Bool, true, false}
 use mathlib.Core.List.{List, [], _∷_, _++_, append-nil}
-use mathlib.Core.Logic.{inl, inr, ⊎-elim}
+use mathlib.Core.Logic.{_⊎_, inl, inr, ⊎-elim}
 use mathlib.Core.Path.{_≡_, refl, sym, ap, _∙_, subst}
 use Prim.Native.Nat.{ℕ, zero, suc, _+_, _-_, _^_, _≤_, _<_}
 use native.Mathlib.Omega.{arith}
@@ -25,7 +25,7 @@ use Rattle.feed.proofs.KeptRuns.{kept-run}
 use Rattle.feed.proofs.RunTheorems.{rest-short, run-more, run-stopped}
 use Rattle.feed.proofs.RunEnds.{Proper, run-left}
 use Rattle.feed.proofs.TotalLaws.{up-low, up-high, up-up}
-use Rattle.wear.specs.Turns.{unread, goingOf, held, waiting, Waiting, Came, Turned, Worn, Turns}
+use Rattle.wear.specs.Turns.{unread, goingOf, held, waiting, Waiting, Came, Turned, AllCame, Worn, Left, Turns}
 use Rattle.wear.specs.declared.input.Turn.{Turn}
 use Rattle.wear.specs.declared.reads.Going.{Going}
 use Rattle.wear.specs.declared.reads.Reads.{Reads}
@@ -53,6 +53,7 @@ pub record Done (s : List ℕ) (over : Bool) (buffer l : List ℕ) (now : Turn) 
   pub rows : l ≡ cellsOf (runOver s over fresh .state .rows)
   pub totals : now .totals ≡ runOver s over fresh .state .totals
   pub going : now .going ≡ goingOf (runOver s over fresh .ending)
+  pub used : now .used ≡ up 0 (runOver s over fresh .at)
   pub order : now .from ≤ now .to
   pub within : now .to ≤ length buffer
   pub waits : waiting now buffer ≡ drop (runOver s over fresh .at) s
@@ -64,7 +65,7 @@ pub record Waits (s buffer l : List ℕ) (now : Turn) : Type 0 where
   pub more : runOver s false fresh .ending ≡ Ending.More
 
 -- none has come
-pub waits-none : (buffer l : List ℕ) (told : Reads) → l ≡ cellsOf [] → told ≡ unread → Waits [] buffer l (turn 0 0 zeros Going.On told)
+pub waits-none : (buffer l : List ℕ) (told : Reads) → l ≡ cellsOf [] → told ≡ unread → Waits [] buffer l (turn 0 0 0 zeros Going.On told)
 unfolding runFrom nextOf
 waits-none buffer l told e u = record {
   done = record {
@@ -72,6 +73,7 @@ waits-none buffer l told e u = record {
     rows = e;
     totals = refl;
     going = refl;
+    used = sym (up-low 0 0 (omega arith));
     order = omega arith;
     within = omega arith;
     waits = refl;
@@ -82,50 +84,81 @@ waits-none buffer l told e u = record {
 
 -- A run over all that has come: it waits, or it is over
 
--- a run goes on, is over, or a read failed: one of these
+-- a run goes on, is over, has stopped, or a read failed: one of these
 pub on-not-over : {g : Going} {A : Type 0} → g ≡ Going.On → g ≡ Going.Over → A
 on-not-over e h = absurd (let z : _≡_ {A = ℕ} 0 1 = cc in omega arith)
 
-pub failed-not : {g : Going} {A : Type 0} → g ≡ Going.Failed → (g ≡ Going.On → A) × (g ≡ Going.Over → A)
-failed-not f = (λ e. absurd (let z : _≡_ {A = ℕ} 0 1 = cc in omega arith), λ e. absurd (let z : _≡_ {A = ℕ} 0 1 = cc in omega arith))
+pub on-not-stopped : {g : Going} {A : Type 0} → g ≡ Going.On → g ≡ Going.Stopped → A
+on-not-stopped e h = absurd (let z : _≡_ {A = ℕ} 0 1 = cc in omega arith)
+
+over-not-stopped : {g : Going} {A : Type 0} → g ≡ Going.Over → g ≡ Going.Stopped → A
+over-not-stopped e h = absurd (let z : _≡_ {A = ℕ} 0 1 = cc in omega arith)
+
+pub record NotFailed (g : Going) : Type 0 where
+  pub on : g ≡ Going.On → ⊥
+  pub over : g ≡ Going.Over → ⊥
+  pub stopped : g ≡ Going.Stopped → ⊥
+
+pub failed-not : {g : Going} → g ≡ Going.Failed → NotFailed g
+failed-not f = record {
+  on = λ e. let z : _≡_ {A = ℕ} 0 1 = cc in omega arith;
+  over = λ e. let z : _≡_ {A = ℕ} 0 1 = cc in omega arith;
+  stopped = λ e. let z : _≡_ {A = ℕ} 0 1 = cc in omega arith;
+}
 
 on-more : (e : Ending) → goingOf e ≡ Going.On → e ≡ Ending.More
 on-more ending.More h = refl
 on-more ending.Ended h = on-not-over h refl
-on-more ending.Stopped h = on-not-over h refl
+on-more ending.Stopped h = on-not-stopped h refl
 
 on-waits : (e : Ending) → goingOf e ≡ Going.On → Proper true e → ⊥
 on-waits e h p = subst (Proper true) (on-more e h) p
 
-over-stopped : (e : Ending) → goingOf e ≡ Going.Over → Proper false e → e ≡ Ending.Stopped
-over-stopped ending.More h p = on-not-over refl h
-over-stopped ending.Ended h p = absurd p
-over-stopped ending.Stopped h p = refl
+-- before the input's end a run that does not wait has stopped
+off-stopped : (e : Ending) → (goingOf e ≡ Going.On → ⊥) → Proper false e → e ≡ Ending.Stopped
+off-stopped ending.More h p = absurd (h refl)
+off-stopped ending.Ended h p = absurd p
+off-stopped ending.Stopped h p = refl
 
 never-failed : {A : Type 0} (e : Ending) → goingOf e ≡ Going.Failed → A
-never-failed ending.More h = failed-not h .0 refl
-never-failed ending.Ended h = failed-not h .1 refl
-never-failed ending.Stopped h = failed-not h .1 refl
+never-failed ending.More h = absurd (failed-not h .on refl)
+never-failed ending.Ended h = absurd (failed-not h .over refl)
+never-failed ending.Stopped h = absurd (failed-not h .stopped refl)
 
 module _ (s buffer l : List ℕ) (now : Turn) where
   done-on : (over : Bool) → Done s over buffer l now → now .going ≡ Going.On → Waits s buffer l now × (over ≡ false)
   done-on true d e = absurd (on-waits (runOver s true fresh .ending) (sym (d .going) ∙ e) (run-left s true fresh .proper))
   done-on false d e = (record { done = d; more = on-more _ (sym (d .going) ∙ e) }, refl)
 
-  done-over : (over : Bool) → Done s over buffer l now → (over ≡ true → now .reads .input ≡ Going.Over) → now .going ≡ Going.Over → Worn l now
-  done-over true d end e = record { feed = s; octets = d .octets; all = d .all; whole = inl (end refl); rows = d .rows; totals = d .totals }
-  done-over false d end e =
-      let stopped = over-stopped _ (sym (d .going) ∙ e) (run-left s false fresh .proper) in
+  -- by a run that knows of the input's end
+  done-worn : Done s true buffer l now → (now .reads .input ≡ Going.Over) ⊎ (runOver s false fresh .ending ≡ Ending.Stopped)
+      → Worn s l now × Left s buffer now
+  done-worn d whole = (
+    record { all = record { octets = d .octets; many = d .all; whole = whole }; rows = d .rows; totals = d .totals; going = d .going },
+    record { used = d .used; order = d .order; within = d .within; waits = d .waits },
+  )
+
+  done-off : (over : Bool) → Done s over buffer l now → (over ≡ true → now .reads .input ≡ Going.Over) → (now .going ≡ Going.On → ⊥)
+      → Worn s l now × Left s buffer now
+  done-off true d end off = done-worn d (inl (end refl))
+  done-off false d end off =
+      let stopped = off-stopped _ (λ e. off (d .going ∙ e)) (run-left s false fresh .proper) in
       let same : runOver s true fresh ≡ runOver s false fresh =
       subst (λ u. runOver u true fresh ≡ runOver s false fresh) (append-nil s) (run-stopped s [] true fresh (rw append-nil (d .octets)) stopped) in
-      record {
-        feed = s;
+      let back = sym same in
+      done-worn
+      (record {
         octets = d .octets;
+        rows = d .rows ∙ ap (λ (x : Run). cellsOf (x .state .rows)) back;
+        totals = d .totals ∙ ap (λ (x : Run). x .state .totals) back;
+        going = d .going ∙ ap (λ (x : Run). goingOf (x .ending)) back;
+        used = d .used ∙ ap (λ (x : Run). up 0 (x .at)) back;
+        order = d .order;
+        within = d .within;
+        waits = d .waits ∙ ap (λ (x : Run). drop (x .at) s) back;
         all = d .all;
-        whole = inr stopped;
-        rows = d .rows ∙ sym (ap (λ (x : Run). cellsOf (x .state .rows)) same);
-        totals = d .totals ∙ sym (ap (λ (x : Run). x .state .totals) same);
-      }
+      })
+      (inr stopped)
 
 -- Octets wait, and a turn is taken
 
@@ -194,6 +227,7 @@ module _ (s buffer l : List ℕ) (now : Turn) (w : Waits s buffer l now) where
           rows = r .rows ∙ sym (ap (λ (x : Run). cellsOf (x .state .rows)) all);
           totals = r .totals ∙ sym (ap (λ (x : Run). x .state .totals) all);
           going = r .going ∙ sym (ap (λ (x : Run). goingOf (x .ending)) all);
+          used = r .used ∙ ap (λ k. up k (one .at)) (w .done .used) ∙ up-up 0 (run .at) (one .at) ∙ ap (λ (x : Run). up 0 (x .at)) (sym all);
           order = omega (arith, r .from, r .to, run-left front (eqb n 0) (state (rowsOf l) (now .totals)) .within);
           within = omega (arith, r .to, length-take-le (held now + n) out (c .fits), c .fits);
           waits =
@@ -211,36 +245,43 @@ module _ (s buffer l : List ℕ) (now : Turn) (w : Waits s buffer l now) where
         let d = done-on (s ++ t) out m then (eqb n 0) came-done e in
         (s ++ t, d .0, omega (arith, length-append s t, long, eqb-false n 0 (d .1)))
 
-    came-over : then .going ≡ Going.Over → Worn m then
-    came-over =
-        done-over (s ++ t) out m then (eqb n 0) came-done
+    came-off : (then .going ≡ Going.On → ⊥) → Worn (s ++ t) m then × Left (s ++ t) out then
+    came-off =
+        done-off (s ++ t) out m then (eqb n 0) came-done
         (λ e. ap (λ x. x .input) (c .ran .reads) ∙ ap (λ b. pick b Going.Over Going.On) e)
 
   -- a turn goes on, or the run is over, or the read failed
   module _ (out m : List ℕ) (then : Turn) where
     pub turn-on : Turned now buffer l out m then → then .going ≡ Going.On → (u : List ℕ) × Waits u out m then × (length s < length u)
-    turn-on (inl f) e = failed-not (f .0) .0 e
+    turn-on (inl f) e = absurd (failed-not (f .0) .on e)
     turn-on (inr c) e = came-on out m then c e
 
-    pub turn-ends : Turned now buffer l out m then → (then .going ≡ Going.On → ⊥) → Turns m then
+    pub turn-ends : Turned now buffer l out m then → (then .going ≡ Going.On → ⊥) → Turns out m then
     turn-ends (inl f) off = record {
-      over = λ e. failed-not (f .0) .1 e;
+      over = λ e. absurd (failed-not (f .0) .over e);
+      stopped = λ e. absurd (failed-not (f .0) .stopped e);
       failed = λ e. ap (λ x. x .input) (f .1);
       on = λ e. absurd (off e);
     }
     turn-ends (inr c) off = record {
-      over = came-over out m then c;
+      over = λ e. (_, came-off out m then c off .0);
+      stopped = λ e. let w = came-off out m then c off in (_, w .0, w .1);
       failed = λ e. never-failed (one out m then c .ending) (sym (c .ran .going) ∙ e);
       on = λ e. absurd (off e);
     }
 
   -- turns are used up
-  pub waits-last : 2 ^ 64 - 1 ≤ length s → now .going ≡ Going.On → Turns l now
-  waits-last h e = record { over = on-not-over e; failed = λ f. failed-not f .0 e; on = λ e. w .done .all ∙ up-most (length s) h }
+  pub waits-last : 2 ^ 64 - 1 ≤ length s → now .going ≡ Going.On → Turns buffer l now
+  waits-last h e = record {
+    over = on-not-over e;
+    stopped = on-not-stopped e;
+    failed = λ f. absurd (failed-not f .on e);
+    on = λ e. w .done .all ∙ up-most (length s) h;
+  }
 
 -- The ledger of a whole feed keeps the rules.
-pub worn-kept : (l : List ℕ) (last : Turn) → Worn l last → Kept l
-worn-kept l last w = subst Kept (sym (w .rows)) (kept-run (suc (length (w .feed))) (w .feed) (w .octets) true fresh ruled-none)
+pub worn-kept : (feed l : List ℕ) (last : Turn) → Worn feed l last → Kept l
+worn-kept feed l last w = subst Kept (sym (w .rows)) (kept-run (suc (length feed)) feed (w .all .octets) true fresh ruled-none)
 
 -- Nothing can be printed before the first read.
 unread-feed : (s : List ℕ) → 0 ≡ up 0 (length s) → runOver s false fresh .ending ≡ Ending.Stopped → ⊥
@@ -251,6 +292,6 @@ unread-feed (x ∷ s) h e =
     (λ t. let w = up-high 0 (suc (length s)) (omega (arith, leb-true (2 ^ 64) (suc (length s)) t)) in omega arith)
     (λ f. let w = up-low 0 (suc (length s)) (omega (arith, leb-false (2 ^ 64) (suc (length s)) f)) in omega arith)
 
-pub unread-none : (l : List ℕ) (now : Turn) → now .reads ≡ unread → Worn l now → ⊥
-unread-none l now u w =
-    ⊎-elim (λ e. on-not-over (ap (λ x. x .input) u) e) (unread-feed (w .feed) (sym (ap (λ x. x .octets) u) ∙ w .all)) (w .whole)
+pub unread-none : (feed : List ℕ) (now : Turn) → now .reads ≡ unread → AllCame feed now → ⊥
+unread-none feed now u w =
+    ⊎-elim (λ e. on-not-over (ap (λ x. x .input) u) e) (unread-feed feed (sym (ap (λ x. x .octets) u) ∙ w .many)) (w .whole)

@@ -1,5 +1,5 @@
 -- What the reads give, what a turn of the program does, and what it has done when the input is over (01 "Worked examples", the program `wear`).
-use mathlib.Core.Bool.{false}
+use mathlib.Core.Bool.{true, false}
 use mathlib.Core.List.{List, []}
 use mathlib.Core.Logic.{_⊎_}
 use mathlib.Core.Path.{_≡_}
@@ -45,13 +45,14 @@ pub record Heard (room : ℕ) (before : Reads) (input : Input) : Type 0 where
 abbrev pub goingOf : Ending → Going
 goingOf ending.More = Going.On
 goingOf ending.Ended = Going.Over
-goingOf ending.Stopped = Going.Over
+goingOf ending.Stopped = Going.Stopped
 
--- A run over octets is done: its rows are in the ledger, its totals in the turn, and what it left of them waits.
-pub record Ran (s : List ℕ) (r : Run) (l : List ℕ) (told : Reads) (turn : Turn) : Type 0 where
+-- A run over octets is done, behind so many used before: its rows are in the ledger, its totals in the turn, and what it left of them waits.
+pub record Ran (s : List ℕ) (r : Run) (l : List ℕ) (before : ℕ) (told : Reads) (turn : Turn) : Type 0 where
   pub rows : l ≡ cellsOf (r .state .rows)
   pub totals : turn .totals ≡ r .state .totals
   pub going : turn .going ≡ goingOf (r .ending)
+  pub used : turn .used ≡ up before (r .at)
   pub from : turn .from ≡ r .at
   pub to : turn .to ≡ length s
   pub reads : turn .reads ≡ told
@@ -79,25 +80,37 @@ pub record Came (before : Turn) (buffer₀ l₀ buffer l : List ℕ) (turn : Tur
   pub ran :
       Ran (take (held before + n) buffer)
       (runOver (take (held before + n) buffer) (eqb n 0) (state (rowsOf l₀) (before .totals)))
-      l (heard (before .reads) n) turn
+      l (before .used) (heard (before .reads) n) turn
 
 -- A turn: octets came, or the read failed.
 abbrev pub Turned : Turn → List ℕ → List ℕ → List ℕ → List ℕ → Turn → Type 0
 Turned before buffer₀ l₀ buffer l turn =
     ((turn .going ≡ Going.Failed) × (turn .reads ≡ unheard (before .reads))) ⊎ Came before buffer₀ l₀ buffer l turn
 
--- The ledger and the totals of a feed that has as many octets as the reads have given, and of which nothing is to come: the last read gave nothing, or
--- the run has stopped. Before the first read there is none (proofs/TurnLaws.antt `unread-none`).
-pub record Worn (l : List ℕ) (turn : Turn) : Type 0 where
-  pub feed : List ℕ
+-- A feed that has as many octets as the reads have given, and of which nothing is to come: the last read gave nothing, or the run has stopped.
+-- Before the first read there is none (proofs/TurnLaws.antt `unread-none`).
+pub record AllCame (feed : List ℕ) (turn : Turn) : Type 0 where
   pub octets : Octets feed
-  pub all : turn .reads .octets ≡ up 0 (length feed)
+  pub many : turn .reads .octets ≡ up 0 (length feed)
   pub whole : (turn .reads .input ≡ Going.Over) ⊎ (runOver feed false (state [] zeros) .ending ≡ Ending.Stopped)
+
+-- The run over such a feed: the ledger and the totals, and whether it ended or stopped
+pub record Worn (feed l : List ℕ) (turn : Turn) : Type 0 where
+  pub all : AllCame feed turn
   pub rows : l ≡ cellsOf (wearOf feed .rows)
   pub totals : turn .totals ≡ wearOf feed .totals
+  pub going : turn .going ≡ goingOf (runOver feed true (state [] zeros) .ending)
 
--- Turn after turn: where the run is over, it is that; otherwise a read failed, or more octets have come than can be counted.
-pub record Turns (l : List ℕ) (turn : Turn) : Type 0 where
-  pub over : turn .going ≡ Going.Over → Worn l turn
+-- how many octets it used, and what waits in the buffer of the others: those from there on
+pub record Left (feed buffer : List ℕ) (turn : Turn) : Type 0 where
+  pub used : turn .used ≡ up 0 (runOver feed true (state [] zeros) .at)
+  pub order : turn .from ≤ turn .to
+  pub within : turn .to ≤ length buffer
+  pub waits : waiting turn buffer ≡ drop (runOver feed true (state [] zeros) .at) feed
+
+-- Turn after turn: where the run has ended or stopped, it is that of a feed; otherwise a read failed, or more octets have come than can be counted.
+pub record Turns (buffer l : List ℕ) (turn : Turn) : Type 0 where
+  pub over : turn .going ≡ Going.Over → (feed : List ℕ) × Worn feed l turn
+  pub stopped : turn .going ≡ Going.Stopped → (feed : List ℕ) × Worn feed l turn × Left feed buffer turn
   pub failed : turn .going ≡ Going.Failed → turn .reads .input ≡ Going.Failed
   pub on : turn .going ≡ Going.On → turn .reads .octets ≡ 2 ^ 64 - 1

@@ -6,10 +6,11 @@ ghost use Rattle.libc.specs.Io.{Moved};
 ghost use Rattle.feed.specs.Totals.{up};
 ghost use Rattle.wear.specs.Turns.{unread, heard, inputOf, Heard};
 
-// Whether it goes on, is over, or a read failed: of the input, and of the run over it.
+// Whether it goes on, is over, or a read failed: of the input, and of the run over it, which may also stop.
 pub enum Going {
     On,
     Over,
+    Stopped,
     Failed,
 }
 
@@ -37,7 +38,7 @@ pub(crate) fn none() -> Reads
 }
 
 // So many octets more, up to 2^64 - 1.
-fn more(octets: u64, n: usize) -> u64
+pub(crate) fn more(octets: u64, n: usize) -> u64
     ensures { λ r. ⌜ r ≡ up octets n ⌝ }
 {
     let came = n as u64;
@@ -94,4 +95,53 @@ pub(crate) fn read_behind(buffer: &mut [u8], held: usize, before: Reads) -> Inpu
 {
     let got = ask(buffer, held);
     told(before, got)
+}
+
+// One read more, only to count what comes.
+fn read_once(buffer: &mut [u8], before: Reads) -> Reads
+    ensures { λ r. ⌜ before .octets ≤ r .octets ⌝ }
+{
+    let input = read_behind(buffer, 0, before);
+    match input {
+        Input::Failed(told) => told,
+        Input::Came(_, told) => told,
+    }
+}
+
+// Reads on to the end of the input, or to a read that fails.
+pub(crate) fn read_on(buffer: &mut [u8], before: Reads) -> Reads
+    ensures { λ r. ⌜ before .octets ≤ r .octets ⌝ }
+{
+    let mut reads = before;
+    let mut left = u64::MAX;
+    while 0 < left {
+        let going = reads.input;
+        if let Going::On = going {
+            reads = read_once(buffer, reads);
+        } else {
+            return reads;
+        }
+        left -= 1;
+    }
+    reads
+}
+
+// How many octets the reads have given behind so many.
+pub(crate) fn behind(reads: Reads, used: u64) -> u64
+    ensures { λ r. ⌜ r ≡ reads .octets - used ⌝ }
+{
+    let octets = reads.octets;
+    if octets < used {
+        return 0;
+    }
+    octets - used
+}
+
+// Whether a read failed.
+pub(crate) fn has_failed(reads: Reads) -> bool {
+    let going = reads.input;
+    match going {
+        Going::Failed => true,
+        Going::On | Going::Over | Going::Stopped => false,
+    }
 }

@@ -15,12 +15,12 @@ use Rattle.wear.proofs.turns.Statement.{statement}
 use Rattle.wear.proofs.turns.Tie as tie
 
 abbrev Inv-loop : tie.InvT-loop
-Inv-loop buffer₀ cells₀ now₀ left₀ buffer cells now left =
+Inv-loop buffer₀ cells₀ tells now₀ left₀ buffer cells now left =
     (length buffer ≡ length buffer₀) × (now .going ≡ Going.On)
     × ((s : List ℕ) × laws.Waits s buffer cells now × (2 ^ 64 - 1 ≤ length s + left))
 
 abbrev μ-loop : tie.MeasureT-loop
-μ-loop buffer₀ cells₀ now₀ left₀ buffer cells now left = left
+μ-loop buffer₀ cells₀ tells now₀ left₀ buffer cells now left = left
 
 -- no octet has come
 loop-holds : tie.Need-loop-holds Inv-loop μ-loop
@@ -43,8 +43,8 @@ loop-again c =
     (turn .take-turn .kept .0 ∙ l .loop .inv .0, c .enum-told .given .1, (u .0, u .1, omega (arith, u .2, l .loop .inv .2 .2)))
 
 -- it does not
-not-on : (g : Going) → OneOf (1 ∷ 2 ∷ []) (tagOf (declared enum) g) → g ≡ Going.On → ⊥
-not-on g w e = ⊎-elim (λ z. omega arith) (λ z. omega arith) (subst (λ g. OneOf (1 ∷ 2 ∷ []) (tagOf (declared enum) g)) e w)
+not-on : (g : Going) → OneOf (1 ∷ 2 ∷ 3 ∷ []) (tagOf (declared enum) g) → g ≡ Going.On → ⊥
+not-on g w e = ⊎-elim (λ z. omega arith) (⊎-elim (λ z. omega arith) (λ z. omega arith)) (subst (λ g. OneOf (1 ∷ 2 ∷ 3 ∷ []) (tagOf (declared enum) g)) e w)
 
 returns : tie.Need-returns Inv-loop μ-loop
 returns c =

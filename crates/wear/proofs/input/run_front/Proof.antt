@@ -5,7 +5,10 @@ use Rattle.wear.proofs.input.run_front.Statement.{statement}
 use Rattle.wear.proofs.input.run_front.Tie as tie
 
 returns : tie.Need-returns
-returns c = fronts.front-ran _ _ _ _ _ _ (c .before .before .run .ensures) (c .going-of .ensures)
+returns c =
+    let m = c .before in
+    fronts.front-ran _ _ _ _ _ _ _ _ (m .before .before .run .ensures) (c .going-of .ensures) (m .more .ensures)
 
 pub run-front-spec : {M : Type 1} → statement M
-run-front-spec = tie.close (tie.spec (λ c κs. search needs) (λ c κs. search needs) returns)
+run-front-spec =
+    tie.close (tie.spec (λ c κs. search needs) (λ c κs. c .before .before .before .before .pre) (λ c κs. search needs) (λ c κs. search needs) returns)

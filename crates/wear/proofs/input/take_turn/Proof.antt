@@ -13,12 +13,12 @@ use Rattle.wear.proofs.input.take_turn.Statement.{statement}
 use Rattle.wear.proofs.input.take_turn.Tie as tie
 
 keep-requires : tie.Need-keep-requires
-keep-requires c κs = let w = c .before .before .before .before .pre .0 in (w .order, w .within)
+keep-requires c κs = let w = c .before .before .before .pre .0 in (w .order, w .within)
 
 -- what waits leaves room
 room : (c : tie.After-keep) → c .keep .result ≤ length (c .keep .last .0)
 room c =
-    let w = c .before .before .before .before .before .pre .0 in
+    let w = c .before .before .before .before .pre .0 in
     omega (arith, c .keep .ensures .0, c .keep .kept .0, w .room)
 
 read-behind-requires : tie.Need-read-behind-requires
@@ -30,7 +30,7 @@ came : (c : tie.After-input2)
     let keep = read .before .before .before .before in
     let n = c .input2 .given .0 .0 in
     (n ≤ length (keep .keep .last .0) - keep .keep .result)
-    × (c .input2 .given .0 .1 .0 ≡ heard (keep .before .before .before .before .before .args .before .reads) n)
+    × (c .input2 .given .0 .1 .0 ≡ heard (keep .before .before .before .before .args .before .reads) n)
 came c = answers.came-heard _ _ _ _ _ (c .input2 .given .1) (c .before .before .before .before .read-behind .ensures .1)
 
 fits : (c : tie.After-input2)
@@ -44,7 +44,7 @@ add-end : tie.Need-add-end
 add-end c =
     let read = c .before .before .before .before .before in
     let keep = read .before .before .before .before in
-    omega (arith, fits (c .before), read .read-behind .kept .0, keep .keep .kept .0, keep .before .before .before .before .before .good)
+    omega (arith, fits (c .before), read .read-behind .kept .0, keep .keep .kept .0, keep .before .before .before .before .good)
 
 slice-reshare-prefix : tie.Need-slice-reshare-prefix-run-front
 slice-reshare-prefix c = fits (c .before)
@@ -55,13 +55,13 @@ slice-aggregate c = sym (length-take-le _ _ (fits (c .before .before)))
 run-front-requires : tie.Need-run-front-requires
 run-front-requires c κs =
     let keep = c .before .before .before .before .before .before .before .before .before .before .before in
-    keep .before .before .before .before .before .pre .1
+    keep .before .before .before .before .pre .1
 
 -- the read failed
 returns : tie.Need-returns
 returns c =
-    let read = c .before .before .before .before .before in
-    inl (refl, answers.failed-heard _ _ _ _ (c .before .input .given .1) (read .read-behind .ensures .1))
+    let input = c .before .before in
+    inl (refl, answers.failed-heard _ _ _ _ (input .input .given .1) (input .before .before .before .before .read-behind .ensures .1))
 
 -- octets came
 returns-2 : tie.Need-returns-2
@@ -69,7 +69,7 @@ returns-2 c =
     let input = c .before .before .before .before in
     let read = input .before .before .before .before in
     let keep = read .before .before .before .before in
-    let z = keep .before .before .before .before .before in
+    let z = keep .before .before .before .before in
     inr (fronts.came-behind (z .args .before) (z .args .buffer .now) (keep .keep .last .0) (read .read-behind .last .0) _ _ _
     (keep .keep .ensures .0) (keep .keep .ensures .1) (read .read-behind .ensures .0) (fits input)
     (λ j. input .before .before .slice-known3 .given j .fits) (came input .1) _ _ _ (c .run-front .ensures))

@@ -1,0 +1,137 @@
+-- Laws of what is told: what refuses a block, where the fault is, and that no line is long. Assumes nothing.
+use mathlib.Core.Bool.{Bool, true, false}
+use mathlib.Core.List.{List, _++_}
+use mathlib.Core.Path.{_≡_, sym, ap, _∙_, subst}
+use Prim.Native.Nat.{ℕ, _+_, _≤_, _<_, _^_}
+use native.Mathlib.Omega.{arith}
+use borrow.Author.Tests.{eq-eqb, ne-eqb, leb-false}
+use lib.Dec.{eqb, leb}
+use lib.ListN.{length, getD, length-append}
+use Rattle.octets.proofs.Cases.{test, choose}
+use Rattle.blocks.specs.Walks.{ReadListed, listedReading, readOf, readListed}
+use Rattle.blocks.specs.declared.walk.Reading.{Reading}
+use Rattle.blocks.specs.declared.walk.Reading.the-variants as reading
+use Rattle.feed.specs.Blocks.{lenOf, judged, nextOf, listedNext, nextListed}
+use Rattle.feed.specs.Totals.{up}
+use Rattle.feed.specs.declared.block.Next.{Next}
+use Rattle.feed.specs.declared.block.Next.the-variants as next
+use Rattle.feed.proofs.NextLaws.{Whole, next-cases}
+use Rattle.text.specs.Digits.{decimal}
+use Rattle.text.specs.Gathered.{Gathered, putAll}
+use Rattle.text.specs.Quotes.{quoted}
+use Rattle.text.specs.Sentences.{sentence}
+use Rattle.text.proofs.DecimalLaws.{decimal-short}
+use Rattle.text.proofs.SentenceLaws.{sentence-short}
+use Rattle.wear.specs.Tells.{refusedWords, faultWords, skippedLine, stoppedWords, unreadFirst, unreadWords, longestLine}
+
+-- a reading in its cases
+pub listed-of : (r a : Reading) (b : ReadListed) → r ≡ a → listedReading r ≡ b → (listedReading a .refusal ≡ b .refusal) × (listedReading a .offset ≡ b .offset)
+listed-of r a b e is =
+    let same = ap listedReading (sym e) ∙ is in
+    (ap (λ (x : ReadListed). x .refusal) same, ap (λ (x : ReadListed). x .offset) same)
+
+module _ (g g′ : Gathered) (offset at : ℕ) where
+  pub header-put : at ≡ 0 → g′ ≡ putAll g (quoted "; its header\n") → g′ ≡ putAll g (faultWords offset at)
+  header-put e h = rw (eq-eqb at 0 e) h
+
+  pub record-put : (sum : ℕ) → (at ≡ 0 → ⊥) → sum ≡ up offset at → g′ ≡ putAll g (quoted "; its record at octet " ++ decimal sum ++ quoted "\n")
+      → g′ ≡ putAll g (faultWords offset at)
+  record-put sum n is h = rw (ne-eqb at 0 n, ← is) h
+
+-- where a read failed
+module _ (g g′ : Gathered) (failed : Bool) where
+  pub first-failed : failed ≡ true → g′ ≡ putAll g (quoted "; at least ") → g′ ≡ putAll g (unreadFirst failed)
+  first-failed e h = rw e h
+
+  pub first-known : failed ≡ false → g′ ≡ putAll g (quoted "; ") → g′ ≡ putAll g (unreadFirst failed)
+  first-known e h = rw e h
+
+-- No line is long
+
+up-small : (n k : ℕ) → up n k < 2 ^ 64
+up-small n k = choose (λ x. x < 2 ^ 64) (leb (2 ^ 64) (n + k)) (λ t. omega arith) (λ f. omega (arith, leb-false (2 ^ 64) (n + k) f))
+
+refused-short : (n : ℕ) → n < 2 ^ 64 → length (refusedWords n) ≤ 110
+unfolding quoted
+refused-short n h = simp length-append (omega (arith, decimal-short n h, sentence-short n))
+
+fault-short : (offset at : ℕ) → length (faultWords offset at) ≤ 43
+unfolding quoted
+fault-short offset at =
+    test (eqb at 0) (λ t. rw t (omega arith))
+    (λ f. rw f (simp length-append (omega (arith, decimal-short (up offset at) (up-small offset at)))))
+
+first-short : (failed : Bool) → length (unreadFirst failed) ≤ 11
+unfolding quoted
+first-short true = omega arith
+first-short false = omega arith
+
+-- a line of its numbers is that of the block
+module _ (offset : ℕ) (s : List ℕ) (small : offset < 2 ^ 64) (refusal : ℕ) (is-refusal : refusal ≡ readListed s .refusal) (narrow : refusal < 2 ^ 64) where
+  module _ (cat len at : ℕ) (is-cat : cat ≡ getD s 0 0) (is-len : len ≡ lenOf s) (is-at : at ≡ readListed s .offset)
+      (small-cat : cat < 2 ^ 64) (small-len : len < 2 ^ 64) where
+    abbrev pub skippedOf : List ℕ
+    skippedOf =
+        quoted "wear: skipped at octet " ++ decimal offset
+        ++ quoted ": category " ++ decimal cat
+        ++ quoted ", LEN " ++ decimal len
+        ++ quoted ": " ++ refusedWords refusal
+        ++ faultWords offset at
+
+    pub skipped-is : skippedOf ≡ skippedLine offset s
+    unfolding skippedLine
+    skipped-is = rw (is-cat, is-len, is-refusal, is-at)
+
+    pub skipped-short : length skippedOf ≤ longestLine
+    unfolding quoted
+    skipped-short =
+        let a = refusedWords refusal in
+        let b = faultWords offset at in
+        let front = quoted "wear: skipped at octet " ++ decimal offset ++ quoted ": category " ++ decimal cat ++ quoted ", LEN " ++ decimal len ++ quoted ": " in
+        let long : length front ≤ 102 = simp length-append (omega (arith, decimal-short offset small, decimal-short cat small-cat, decimal-short len small-len)) in
+        omega (arith, length-append (front ++ a) b, length-append front a, long, refused-short refusal narrow, fault-short offset at)
+
+  abbrev pub stoppedOf : List ℕ
+  stoppedOf = quoted "wear: stopped at octet " ++ decimal offset ++ quoted ": " ++ refusedWords refusal
+
+  pub stopped-is : stoppedOf ≡ stoppedWords offset s
+  unfolding stoppedWords
+  stopped-is = rw is-refusal
+
+  pub stopped-short : length stoppedOf ≤ longestLine
+  unfolding quoted
+  stopped-short =
+      let a = refusedWords refusal in
+      let front = quoted "wear: stopped at octet " ++ decimal offset ++ quoted ": " in
+      let long : length front ≤ 45 = simp length-append (omega (arith, decimal-short offset small)) in
+      omega (arith, length-append front a, long, refused-short refusal narrow)
+
+pub unread-short : (n : ℕ) (failed : Bool) → n < 2 ^ 64 → length (unreadWords n failed) ≤ longestLine
+unfolding unreadWords quoted
+unread-short n failed h =
+    let last = quoted " octets from there on were not read\n" in
+    omega (arith, length-append (unreadFirst failed ++ decimal n) last, length-append (unreadFirst failed) (decimal n), first-short failed, decimal-short n h)
+
+-- A block that a run goes past has a header, and its octets are there
+
+abbrev pub Passes : List ℕ → Next → Type 0
+Passes s next.Ended = Unit {0}
+Passes s next.Stopped = Unit {0}
+Passes s next.More = Unit {0}
+Passes s (next.Skipped len) = (4 ≤ len) × (len ≤ length s)
+Passes s (next.Accepted len) = (4 ≤ len) × (len ≤ length s)
+
+judged-passes : (s : List ℕ) → Whole s (lenOf s) → (r : Reading) → Passes s (judged (lenOf s) r)
+judged-passes s w (reading.Accepted l n) = (w .least, w .fits)
+judged-passes s w (reading.Refused n at) = (w .least, w .fits)
+
+passes : (s : List ℕ) (over : Bool) (x : Next) → x ≡ nextOf s over → Passes s x
+passes s over x e =
+    subst (Passes s) (sym e)
+    (next-cases s over (Passes s) (λ l. choose (Passes s) over (λ e. choose (Passes s) (eqb (length s) 0) (λ d. tt) (λ d. tt)) (λ e. tt)) (λ l h. tt)
+    (λ l. choose (Passes s) over (λ e. tt) (λ e. tt)) (λ w. judged-passes s w (readOf s)))
+
+-- what comes next, as it is answered and as it is listed: the octets that the run goes on by are there
+module _ (s : List ℕ) (over : Bool) (r x : Next) (is : r ≡ x) (said : (r ≡ nextOf s over) × (listedNext r ≡ nextListed s over)) where
+  pub goes-on : Passes s x × (listedNext x .octets ≡ nextListed s over .octets)
+  goes-on = (passes s over x (sym is ∙ said .0), ap (λ n. n .octets) (ap listedNext (sym is) ∙ said .1))

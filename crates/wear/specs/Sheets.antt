@@ -1,0 +1,41 @@
+-- What is printed (01 "Worked examples", the program `wear`): a header, rows by key (8 hex digits, life count, reading, in decimal), then blocks
+-- accepted and refused, records posted, and records answered 14 or 15.
+use mathlib.Core.List.{List, _++_, flatMap}
+use mathlib.Core.Path.{_≡_}
+use Prim.Native.Nat.{ℕ, _+_, _*_}
+use Rattle.octets.specs.Numbers.{octets}
+use Rattle.rows.specs.Rows.{Row}
+use Rattle.ledger.specs.Ledgers.{table}
+use Rattle.feed.specs.Runs.{State, wearOf}
+use Rattle.feed.specs.declared.totals.Totals.{Totals}
+use Rattle.text.specs.Digits.{hexPair, decimal}
+use Rattle.text.specs.Quotes.{quoted}
+use Rattle.wear.specs.Turns.{AllCame}
+use Rattle.wear.specs.declared.input.Turn.{Turn}
+
+abbrev pub headerLine : List ℕ
+headerLine = quoted "counter life reading\n"
+
+abbrev pub rowLine : Row → List ℕ
+rowLine r = flatMap hexPair (octets 4 (r .key)) ++ quoted " " ++ decimal (r .life) ++ quoted " " ++ decimal (r .reading) ++ quoted "\n"
+
+abbrev pub totalsLine : Totals → List ℕ
+totalsLine t =
+    quoted "accepted " ++ decimal (t .accepted)
+    ++ quoted " refused " ++ decimal (t .refused)
+    ++ quoted " posted " ++ decimal (t .posted)
+    ++ quoted " unposted " ++ decimal (t .unposted)
+    ++ quoted "\n"
+
+-- room for 256 rows: a number has 20 digits at most
+abbrev pub longest : ℕ
+longest = 21 + 51 * 256 + 117
+
+unfoldable pub sheetOf : State → List ℕ
+sheetOf st = headerLine ++ table rowLine (st .rows) ++ totalsLine (st .totals)
+
+-- the sheet of a feed of which the reads have given all
+pub record Printed (turn : Turn) (sheet : List ℕ) : Type 0 where
+  pub feed : List ℕ
+  pub all : AllCame feed turn
+  pub is : sheet ≡ sheetOf (wearOf feed)

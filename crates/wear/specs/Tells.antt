@@ -1,0 +1,45 @@
+-- What is told on standard error: refused blocks that were skipped, and where a run stopped.
+use mathlib.Core.Bool.{Bool}
+use mathlib.Core.List.{List, _++_}
+use Prim.Native.Nat.{ℕ}
+use lib.Dec.{eqb}
+use lib.ListN.{getD}
+use Rattle.octets.specs.Choice.{pick}
+use Rattle.blocks.specs.Walks.{ReadListed, readListed}
+use Rattle.feed.specs.Blocks.{lenOf}
+use Rattle.feed.specs.Totals.{up}
+use Rattle.text.specs.Digits.{decimal}
+use Rattle.text.specs.Quotes.{quoted}
+use Rattle.text.specs.Sentences.{sentence}
+
+-- a refusal: its number, and what it says
+abbrev pub refusedWords : ℕ → List ℕ
+refusedWords n = quoted "refused " ++ decimal n ++ quoted ", " ++ sentence n
+
+-- the record that was refused, by its offset in the feed, or the header
+abbrev pub faultWords : ℕ → ℕ → List ℕ
+faultWords offset at = pick (eqb at 0) (quoted "; its header\n") (quoted "; its record at octet " ++ decimal (up offset at) ++ quoted "\n")
+
+-- A refused block that was skipped: its offset in the feed, category, LEN, the refusal, and where the fault is.
+unfoldable pub skippedLine : ℕ → List ℕ → List ℕ
+skippedLine offset s =
+    quoted "wear: skipped at octet " ++ decimal offset
+    ++ quoted ": category " ++ decimal (getD s 0 0)
+    ++ quoted ", LEN " ++ decimal (lenOf s)
+    ++ quoted ": " ++ refusedWords (readListed s .refusal)
+    ++ faultWords offset (readListed s .offset)
+
+-- A run that stopped: where, and why, by what stands there; and, once the input has ended, how many octets were not read. Where a read failed
+-- before that end, there may be more.
+unfoldable pub stoppedWords : ℕ → List ℕ → List ℕ
+stoppedWords offset s = quoted "wear: stopped at octet " ++ decimal offset ++ quoted ": " ++ refusedWords (readListed s .refusal)
+
+abbrev pub unreadFirst : Bool → List ℕ
+unreadFirst failed = pick failed (quoted "; at least ") (quoted "; ")
+
+unfoldable pub unreadWords : ℕ → Bool → List ℕ
+unreadWords n failed = unreadFirst failed ++ decimal n ++ quoted " octets from there on were not read\n"
+
+-- room for any of these: a number has 20 digits at most
+abbrev pub longestLine : ℕ
+longestLine = 256
