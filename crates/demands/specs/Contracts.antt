@@ -21,7 +21,7 @@ use Rattle.writing.specs.Written.{writeOf, rewriteOf}
 use Rattle.octets.specs.declared.output.Written.{Written}
 use Rattle.feed.specs.Blocks.{nextOf, listedNext, nextListed}
 use Rattle.feed.specs.declared.block.Next.{Next}
-use Rattle.doors.specs.Cells.{cellCount}
+use Rattle.doors.specs.Cell.{cellCount}
 use Rattle.doors.specs.Answers.{isFew, refusalOr, cellsOr, readCells, stepCells, entryCells, putRefusal, putOutput, putLength, cellsWritten, pagePosted}
 
 -- blocks::walk::read: the octets, the answer

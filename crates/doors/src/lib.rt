@@ -10,12 +10,12 @@ ghost use Rattle.octets.specs.Outcomes.{within, answerOf, outputOf, listedWritt
 ghost use Rattle.blocks.specs.Walks.{readListed};
 ghost use Rattle.blocks.specs.Steps.{stepListed, entryListed};
 ghost use Rattle.writing.specs.Written.{rewriteOf};
-ghost use Rattle.doors.specs.Cells.{cellCount};
+ghost use Rattle.doors.specs.Cell.{cellCount};
 ghost use Rattle.doors.specs.Answers.{isFew, refusalOr, cellsOr, readCells, stepCells, entryCells, putRefusal, putOutput, putLength, cellsWritten, pagePosted};
 
+pub mod cell;
 pub mod cells;
 
-use crate::cells::RECORD_CELLS;
 use crate::cells::cells_refusal;
 use crate::cells::record_cells;
 use crate::cells::record_of;
@@ -34,7 +34,7 @@ use writing::block::rewrite;
 use writing::block::write;
 
 // The cells of a step: the offset, the next start, and the record's.
-const STEP_CELLS: usize = 2 + RECORD_CELLS;
+const STEP_CELLS: usize = 2 + cell::CELLS;
 
 // Values into cells from one on.
 fn lay(cells: &mut [u64], at: usize, values: &[u64])
@@ -152,7 +152,7 @@ pub extern "C" fn wear_write(cells: &[u64], source: &[u8], out: &mut [u8], size:
         × (now (out .exit) ≡ putOutput (isFew cellCount (now (cells .entry)) || isFew 1 (now (size .entry))) (now (out .entry)) (within (length (now (out .entry))) (cellsWritten (now (cells .entry)) (now (source .entry)))))
         × (now (size .exit) ≡ putLength (isFew cellCount (now (cells .entry)) || isFew 1 (now (size .entry))) (now (size .entry)) (within (length (now (out .entry))) (cellsWritten (now (cells .entry)) (now (source .entry))))) ⌝ }
 {
-    if cells.len() < RECORD_CELLS {
+    if cells.len() < cell::CELLS {
         return refusal::OUTPUT_TOO_SHORT as u32;
     }
     if size.len() < 1 {

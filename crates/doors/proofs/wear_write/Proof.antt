@@ -6,7 +6,7 @@ use Prim.Native.Nat.{ℕ, _≤_, _<_}
 use lib.ListN.{length}
 use borrow.Author.Tests.{lt-ltb, le-ltb}
 use Rattle.octets.proofs.Outcomes.{says-no}
-use Rattle.doors.specs.Cells.{cellCount}
+use Rattle.doors.specs.Cell.{cellCount}
 use Rattle.doors.specs.Answers.{isFew, cellsWritten}
 use Rattle.doors.proofs.DoorSteps.{put-few, put-all, cells-refused, cells-taken}
 use borrow.Author.Needs.{needs}
