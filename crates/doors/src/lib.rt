@@ -1,5 +1,5 @@
-// The doors for C and Rust, as include/wear.h declares them. Each answers a refusal number; values go into 64-bit cells that the caller lends, and
-// where these are too few the answer is 12 before all else.
+// The doors for C and Rust, as include/wear.h declares them. Each but the version's answers a refusal number; values go into 64-bit cells that the
+// caller lends, and where these are too few the answer is 12 before all else.
 ghost use mathlib.Core.Bool.{_||_};
 ghost use mathlib.Core.List.{[], _∷_};
 ghost use mathlib.Core.Path.{_≡_};
@@ -11,7 +11,7 @@ ghost use Rattle.blocks.specs.Walks.{readListed};
 ghost use Rattle.blocks.specs.Steps.{stepListed, entryListed};
 ghost use Rattle.writing.specs.Written.{rewriteOf};
 ghost use Rattle.doors.specs.Cell.{cellCount};
-ghost use Rattle.doors.specs.Answers.{isFew, refusalOr, cellsOr, readCells, stepCells, entryCells, putRefusal, putOutput, putLength, cellsWritten, pagePosted};
+ghost use Rattle.doors.specs.Answers.{version, isFew, refusalOr, cellsOr, readCells, stepCells, entryCells, putRefusal, putOutput, putLength, cellsWritten, pagePosted};
 
 pub mod cell;
 pub mod cells;
@@ -33,6 +33,9 @@ use octets::refusal;
 use writing::block::rewrite;
 use writing::block::write;
 
+// WEAR_VERSION of include/wear.h.
+pub const VERSION: u32 = 1;
+
 // The cells of a step: the offset, the next start, and the record's.
 const STEP_CELLS: usize = 2 + cell::CELLS;
 
@@ -46,6 +49,14 @@ fn lay(cells: &mut [u64], at: usize, values: &[u64])
         cells[at + i] = values[i];
         i += 1;
     }
+}
+
+// The version of these doors, to be compared with the header's.
+#[no_mangle]
+pub extern "C" fn wear_version() -> u32
+    ensures { λ r. ⌜ r ≡ version ⌝ }
+{
+    VERSION
 }
 
 // Offset, LEN, count of records.
