@@ -1,4 +1,4 @@
--- The cells of a record: the enum of include/wear.h, by its names.
+-- The cells of a record, by the names of the enum of include/wear.h; and how many a feed has.
 use Prim.Native.Nat.{ℕ, _+_}
 
 abbrev pub category : ℕ
@@ -111,3 +111,7 @@ spOctets = spAt + 1
 
 abbrev pub cellCount : ℕ
 cellCount = spOctets + 1
+
+-- WEAR_FEED_CELLS
+abbrev pub feedCellCount : ℕ
+feedCellCount = 7

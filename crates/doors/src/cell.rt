@@ -1,4 +1,4 @@
-// The cells of a record: the enum of include/wear.h, by its names.
+// The cells of a record and those of a feed: the enums of include/wear.h, by their names. First a record's.
 pub const CATEGORY: usize = 0;
 
 pub const MARKS: usize = CATEGORY + 1;
@@ -72,3 +72,20 @@ pub const SP_AT: usize = RE_OCTETS + 1;
 pub const SP_OCTETS: usize = SP_AT + 1;
 
 pub const CELLS: usize = SP_OCTETS + 1;
+
+// A feed's.
+pub const FEED_PAGE: usize = 0;
+
+pub const FEED_USED: usize = FEED_PAGE + 1;
+
+pub const FEED_LEFT_OFF: usize = FEED_USED + 1;
+
+pub const FEED_ACCEPTED: usize = FEED_LEFT_OFF + 1;
+
+pub const FEED_REFUSED: usize = FEED_ACCEPTED + 1;
+
+pub const FEED_POSTED: usize = FEED_REFUSED + 1;
+
+pub const FEED_UNPOSTED: usize = FEED_POSTED + 1;
+
+pub const FEED_CELLS: usize = FEED_UNPOSTED + 1;
