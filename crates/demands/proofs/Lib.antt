@@ -13,3 +13,4 @@ pub mod GivenOutputs
 pub mod GivenItems
 pub mod GivenWriting
 pub mod GivenPages
+pub mod GivenFeeds

@@ -6,4 +6,5 @@ pub mod Verdicts
 pub mod Given
 pub mod GivenWriting
 pub mod GivenPages
+pub mod GivenFeeds
 pub mod Rewritten
