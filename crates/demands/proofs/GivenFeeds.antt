@@ -1,4 +1,5 @@
 -- A feed at its door: 16 and 12 are given when document 01's table says, and only then (specs/GivenFeeds.antt). Assumes nothing.
+use mathlib.Core.Bool.{Bool}
 use mathlib.Core.List.{List}
 use mathlib.Core.Logic.{_↔_}
 use mathlib.Core.Path.{_≡_, sym, ap, _∙_}
@@ -27,6 +28,11 @@ use Rattle.demands.specs.GivenFeeds.{fedPage, FeedFault}
 use Rattle.demands.proofs.GivenOutputs.{no-same, puts-same, not-puts, within-puts, number-given, number-written}
 use Rattle.demands.proofs.GivenPages.{page-or-not, load-page, load-none}
 
+-- where there is a page, the ledger that the run leaves is stored
+pub fed-loaded : (page s : List ℕ) (over : Bool) → loadOf page .refusal ≡ 0 → pageFed page s over ≡ storeOf (cellsOf (feedRun page s over .state .rows))
+unfolding pageFed
+fed-loaded page s over good = rw (eq-eqb _ 0 good)
+
 module _ (page s : List ℕ) (okay : Octets page) (are : Octets s) (more : ℕ) where
   abbrev fed : Outcome
   fed = pageFed page s (isOver more)
@@ -36,11 +42,10 @@ module _ (page s : List ℕ) (okay : Octets page) (are : Octets s) (more : ℕ) 
   fed-kept = let k = loaded-good page okay in kept-run (suc (length s)) s are (isOver more) _ (k .good, k .narrow)
 
   fed-stored : Page page → fed ≡ puts (fedPage page s more)
-  unfolding pageFed storeOf
+  unfolding storeOf
   fed-stored p =
       let rows : List Row = feedRun page s (isOver more) .state .rows in
-      let good : loadOf page .refusal ≡ 0 = ap (λ (a : Answer). a .refusal) (load-page page p) in
-      rw (eq-eqb _ 0 good, rules-kept (cellsOf rows) fed-kept, rows-back rows)
+      fed-loaded page s (isOver more) (ap (λ (a : Answer). a .refusal) (load-page page p)) ∙ rw (rules-kept (cellsOf rows) fed-kept, rows-back rows)
 
   fed-none : NoPage page → fed ≡ no rulesBroken
   unfolding pageFed
@@ -71,12 +76,13 @@ module _ (page s : List ℕ) (okay : Octets page) (are : Octets s) (more : ℕ) 
     feed-given-0 = number-written fed _ _ (fedPage page s more) fed-no fed-puts l r answered (λ w. let z : _≡_ {A = ℕ} 0 16 = w .1 in omega arith)
 
     -- Then that page goes out, and the cells tell of the run.
+    pub puts-out : r ≡ 0 → within (length l) fed ≡ puts (fedPage page s more)
+    puts-out e = let w = feed-given-0 .0 e in within-puts fed _ _ (fedPage page s more) fed-no fed-puts l (w .0) (w .1)
+
     pub feed-accepted : r ≡ 0
         → (out ≡ laid l 0 (fedPage page s more)) × (after ≡ laid cells 0 (doneCells (length (fedPage page s more)) (doneOf (feedRun page s (isOver more)))))
     feed-accepted e =
-        let w = feed-given-0 .0 e in
-        let is = within-puts fed _ _ (fedPage page s more) fed-no fed-puts l (w .0) (w .1) in
         let few = le-ltb (length cells) feedCellCount enough in
         let o : out ≡ outputOf l (within (length l) fed) = rw few at (h .1) in
         let c : after ≡ laid cells 0 (feedCells (within (length l) fed) (feedRun page s (isOver more))) = rw few at (h .2) in
-        (rw is at o, rw is at c)
+        (rw (puts-out e) at o, rw (puts-out e) at c)

@@ -14,3 +14,4 @@ pub mod GivenItems
 pub mod GivenWriting
 pub mod GivenPages
 pub mod GivenFeeds
+pub mod Pieces

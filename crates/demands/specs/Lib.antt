@@ -7,4 +7,5 @@ pub mod Given
 pub mod GivenWriting
 pub mod GivenPages
 pub mod GivenFeeds
+pub mod Pieces
 pub mod Rewritten

@@ -1,4 +1,4 @@
--- The cells of a record, by the names of the enum of include/wear.h; and how many a feed has.
+-- The cells of a record and those of a feed: the enums of include/wear.h, by their names. First a record's
 use Prim.Native.Nat.{ℕ, _+_}
 
 abbrev pub category : ℕ
@@ -112,6 +112,28 @@ spOctets = spAt + 1
 abbrev pub cellCount : ℕ
 cellCount = spOctets + 1
 
--- WEAR_FEED_CELLS
+-- A feed's
+
+abbrev pub feedPage : ℕ
+feedPage = 0
+
+abbrev pub feedUsed : ℕ
+feedUsed = feedPage + 1
+
+abbrev pub feedLeftOff : ℕ
+feedLeftOff = feedUsed + 1
+
+abbrev pub feedAccepted : ℕ
+feedAccepted = feedLeftOff + 1
+
+abbrev pub feedRefused : ℕ
+feedRefused = feedAccepted + 1
+
+abbrev pub feedPosted : ℕ
+feedPosted = feedRefused + 1
+
+abbrev pub feedUnposted : ℕ
+feedUnposted = feedPosted + 1
+
 abbrev pub feedCellCount : ℕ
-feedCellCount = 7
+feedCellCount = feedUnposted + 1
