@@ -3,13 +3,14 @@
 use mathlib.Core.Bool.{true}
 use mathlib.Core.List.{List}
 use mathlib.Core.Path.{_≡_, ap, sym, _∙_}
-use Prim.Native.Nat.{ℕ}
+use Prim.Native.Nat.{ℕ, _≤_, _<_}
 use native.Mathlib.Omega.{arith}
-use lib.ListN.{take, drop}
+use borrow.Author.Tests.{lt-ltb, le-ltb}
+use lib.ListN.{length, take, drop, replicate}
 use lib.Seq.{take-at}
-use Rattle.octets.specs.Numbers.{Octets}
-use Rattle.octets.specs.Outcomes.{no, puts}
-use Rattle.octets.specs.Refusals.{rulesBroken}
+use Rattle.octets.specs.Numbers.{Octets, laid}
+use Rattle.octets.specs.Outcomes.{Outcome, no, puts, within, outputOf, outcomeListed}
+use Rattle.octets.specs.Refusals.{rulesBroken, outputTooShort}
 use Rattle.blocks.specs.declared.record.Record.{Record}
 use Rattle.writing.specs.Written.{writeOf, rewriteOf}
 use Rattle.octets.specs.declared.output.Written.{Written}
@@ -20,7 +21,10 @@ use Rattle.ledger.specs.declared.Ledger.{Ledger}
 use Rattle.ledger.proofs.CellLaws.{ledger-same}
 use Rattle.ledger.proofs.PageTheorems.{store-load, load-store}
 use Rattle.ledger.proofs.PostTheorems.{posted-same}
-use Rattle.demands.specs.Contracts.{Writes, Rewrites, Posts, Loads, Stores}
+use Rattle.doors.specs.Cell.{feedCellCount}
+use Rattle.doors.specs.Feeds.{isOver, feedRun, pageFed, feedCells}
+use Rattle.demands.specs.Contracts.{Writes, Rewrites, Posts, Loads, Stores, WearFeeds}
+use Rattle.demands.proofs.GivenOutputs.{puts-same}
 use Rattle.octets.proofs.Outcomes.{refused-same, written-laid}
 use Rattle.octets.proofs.Cases.{test}
 
@@ -40,8 +44,18 @@ pub refused-posting : (l : Ledger) → Held (l .cells) → (s : List ℕ) (k n :
 refused-posting l held s k n m h not-0 =
     ap (λ (a : Answer). a .ledger) h ∙ ledger-same (posted-same s k (l .cells) held (λ e. not-0 (ap (λ (a : Answer). a .refusal) h ∙ e)))
 
-puts-same : {xs ys : List ℕ} → puts xs ≡ puts ys → xs ≡ ys
-puts-same h = cc
+-- A refused feed leaves the output as it stood, and zeros in its cells; with fewer cells than it needs the answer is 12, and nothing is changed.
+module _ (page s : List ℕ) (more : ℕ) (l cells out after : List ℕ) (r : ℕ) (h : WearFeeds page s more l cells out after r) where
+  pub refused-feeding : feedCellCount ≤ length cells → (r ≡ 0 → ⊥) → (out ≡ l) × (after ≡ laid cells 0 (replicate feedCellCount 0))
+  refused-feeding enough not-0 = go (within (length l) (pageFed page s (isOver more))) (rw (le-ltb (length cells) feedCellCount enough) at h)
+    where
+      go : (x : Outcome) → (r ≡ outcomeListed x .refusal) × (out ≡ outputOf l x) × (after ≡ laid cells 0 (feedCells x (feedRun page s (isOver more))))
+          → (out ≡ l) × (after ≡ laid cells 0 (replicate feedCellCount 0))
+      go (no n) w = (w .1, w .2)
+      go (puts xs) w = absurd (not-0 (w .0))
+
+  pub few-feeding : length cells < feedCellCount → (r ≡ outputTooShort) × (out ≡ l) × (after ≡ cells)
+  few-feeding few = rw (lt-ltb (length cells) feedCellCount few) at h
 
 store-page : (l : Ledger) (xs : List ℕ) → storeOf (l .cells) ≡ puts xs → (keepsRules (l .cells) ≡ true) × (xs ≡ pageOf (rowsOf (l .cells)))
 unfolding storeOf

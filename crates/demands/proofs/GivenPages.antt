@@ -31,15 +31,15 @@ head-given s = (
 
 module _ (s : List ℕ) where
   -- octets are a page, or not
-  page-or-not : {P : Type 0} → (Page s → P) → (NoPage s → P) → P
+  pub page-or-not : {P : Type 0} → (Page s → P) → (NoPage s → P) → P
   page-or-not good bad =
       test (headKeeps s) (λ t. test (keepsRules (cellsIn s)) (λ u. good (t, u)) (λ f. bad (inr (t, f)))) (λ f. bad (inl f))
 
-  load-page : Page s → loadOf s ≡ answer 0 (cellsIn s)
+  pub load-page : Page s → loadOf s ≡ answer 0 (cellsIn s)
   unfolding loadOf
   load-page p = rw (p .0, p .1)
 
-  load-none : NoPage s → loadOf s ≡ answer rulesBroken (cellsOf [])
+  pub load-none : NoPage s → loadOf s ≡ answer rulesBroken (cellsOf [])
   unfolding loadOf
   load-none (inl f) = rw f
   load-none (inr w) = rw (w .0, w .1)

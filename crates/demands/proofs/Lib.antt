@@ -13,3 +13,5 @@ pub mod GivenOutputs
 pub mod GivenItems
 pub mod GivenWriting
 pub mod GivenPages
+pub mod GivenFeeds
+pub mod Pieces

@@ -14,15 +14,17 @@ use Rattle.ledger.proofs.lent.post_lent as post-lent
 use Rattle.ledger.proofs.page.load as load
 use Rattle.ledger.proofs.page.store as store
 use Rattle.feed.proofs.block.next_block as next-block
+use Rattle.doors.proofs.wear_version as wear-version
 use Rattle.doors.proofs.wear_read as wear-read
 use Rattle.doors.proofs.wear_step as wear-step
 use Rattle.doors.proofs.wear_entry as wear-entry
 use Rattle.doors.proofs.wear_write as wear-write
 use Rattle.doors.proofs.wear_rewrite as wear-rewrite
 use Rattle.doors.proofs.wear_post as wear-post
+use Rattle.doors.proofs.wear_feed as wear-feed
 use Rattle.demands.specs.Claims.{MeetsJust}
 use Rattle.demands.specs.Contracts.{Reads, First, Steps, Entries, Writes, Rewrites, Fresh, Checks, Posts, LentPosts, Loads, Stores, Begins}
-use Rattle.demands.specs.Contracts.{WearReads, WearSteps, WearEntries, WearWrites, WearRewrites, WearPosts}
+use Rattle.demands.specs.Contracts.{WearVersions, WearReads, WearSteps, WearEntries, WearWrites, WearRewrites, WearPosts, WearFeeds}
 
 pub reading : MeetsJust read.ended read.Symbol.routine (λ _ (s, _) r _. Reads (now s) r)
 reading M = read.Met.met
@@ -64,6 +66,9 @@ storing M = store.Met.met
 pub beginning : MeetsJust next-block.ended next-block.Symbol.routine (λ _ (s, (over, _)) r _. Begins (now s) over r)
 beginning M = next-block.Met.met
 
+pub door-version : MeetsJust wear-version.ended wear-version.Symbol.routine (λ _ _ r _. WearVersions r)
+door-version M = wear-version.Met.met
+
 pub door-read : MeetsJust wear-read.ended wear-read.Symbol.routine
     (λ _ (s, (cells, _)) r (_, (after, _)). WearReads (now s) (now cells) (now after) r)
 door-read M = wear-read.Met.met
@@ -88,3 +93,8 @@ pub door-post : MeetsJust wear-post.ended wear-post.Symbol.routine
     (λ _ (page, (s, (k, (l, (size, _))))) r (_, (_, (_, (out, (after, _))))).
     WearPosts (now page) (now s) k (now l) (now size) (now out) (now after) r)
 door-post M = wear-post.Met.met
+
+pub door-feed : MeetsJust wear-feed.ended wear-feed.Symbol.routine
+    (λ _ (page, (s, (more, (l, (cells, _))))) r (_, (_, (_, (out, (after, _))))).
+    WearFeeds (now page) (now s) more (now l) (now cells) (now out) (now after) r)
+door-feed M = wear-feed.Met.met

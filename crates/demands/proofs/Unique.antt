@@ -16,7 +16,7 @@ use Rattle.ledger.specs.declared.Ledger.{Ledger}
 use Rattle.ledger.proofs.CellLaws.{ledger-same}
 use Rattle.feed.specs.declared.block.Next.{Next}
 use Rattle.demands.specs.Contracts.{Reads, First, Steps, Entries, Writes, Rewrites, Fresh, Checks, Posts, LentPosts, Loads, Stores, Begins}
-use Rattle.demands.specs.Contracts.{WearReads, WearSteps, WearEntries, WearWrites, WearRewrites, WearPosts}
+use Rattle.demands.specs.Contracts.{WearVersions, WearReads, WearSteps, WearEntries, WearWrites, WearRewrites, WearPosts, WearFeeds}
 
 pub one-reading : (s : List ℕ) (r q : Reading) → Reads s r → Reads s q → r ≡ q
 one-reading s r q h k = only (h .0) (k .0)
@@ -59,6 +59,9 @@ one-storing l o out out' r q h k = only-both (h .0, h .1) (k .0, k .1)
 pub one-beginning : (s : List ℕ) (over : Bool) (r q : Next) → Begins s over r → Begins s over q → r ≡ q
 one-beginning s over r q h k = only (h .0) (k .0)
 
+pub one-wear-version : (r q : ℕ) → WearVersions r → WearVersions q → r ≡ q
+one-wear-version r q h k = only h k
+
 pub one-wear-reading : (s cells after after' : List ℕ) (r q : ℕ) → WearReads s cells after r → WearReads s cells after' q
     → (r ≡ q) × (after ≡ after')
 one-wear-reading s cells after after' r q h k = only-both h k
@@ -71,7 +74,7 @@ pub one-wear-entry : (s : List ℕ) (start n : ℕ) (cells after after' : List �
     → WearEntries s start n cells after' q → (r ≡ q) × (after ≡ after')
 one-wear-entry s start n cells after after' r q h k = only-both h k
 
--- where an output is lent: the refusal, the output, and the cell of its length
+-- where an output is lent: the refusal, the output, and the cells
 only-three : {r q a : ℕ} {o p b m n c : List ℕ} → (r ≡ a) × (o ≡ b) × (m ≡ c) → (q ≡ a) × (p ≡ b) × (n ≡ c) → (r ≡ q) × (o ≡ p) × (m ≡ n)
 only-three h k = (only (h .0) (k .0), only (h .1) (k .1), only (h .2) (k .2))
 
@@ -86,3 +89,7 @@ one-wear-rewriting s l size out out' after after' r q h k = only-three h k
 pub one-wear-posting : (page s : List ℕ) (n : ℕ) (l size out out' after after' : List ℕ) (r q : ℕ) → WearPosts page s n l size out after r
     → WearPosts page s n l size out' after' q → (r ≡ q) × (out ≡ out') × (after ≡ after')
 one-wear-posting page s n l size out out' after after' r q h k = only-three h k
+
+pub one-wear-feeding : (page s : List ℕ) (more : ℕ) (l cells out out' after after' : List ℕ) (r q : ℕ) → WearFeeds page s more l cells out after r
+    → WearFeeds page s more l cells out' after' q → (r ≡ q) × (out ≡ out') × (after ≡ after')
+one-wear-feeding page s more l cells out out' after after' r q h k = only-three h k

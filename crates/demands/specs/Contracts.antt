@@ -21,8 +21,9 @@ use Rattle.writing.specs.Written.{writeOf, rewriteOf}
 use Rattle.octets.specs.declared.output.Written.{Written}
 use Rattle.feed.specs.Blocks.{nextOf, listedNext, nextListed}
 use Rattle.feed.specs.declared.block.Next.{Next}
-use Rattle.doors.specs.Cells.{cellCount}
-use Rattle.doors.specs.Answers.{isFew, refusalOr, cellsOr, readCells, stepCells, entryCells, putRefusal, putOutput, putLength, cellsWritten, pagePosted}
+use Rattle.doors.specs.Cell.{cellCount, feedCellCount}
+use Rattle.doors.specs.Answers.{version, isFew, refusalOr, cellsOr, readCells, stepCells, entryCells, putRefusal, putOutput, putLength, cellsWritten, pagePosted}
+use Rattle.doors.specs.Feeds.{isOver, feedRun, pageFed, feedCells}
 
 -- blocks::walk::read: the octets, the answer
 abbrev pub Reads : List ℕ → Reading → Type 0
@@ -81,6 +82,10 @@ Stores l o out r = Puts (storeOf (l .cells)) o out r
 abbrev pub Begins : List ℕ → Bool → Next → Type 0
 Begins s over r = (r ≡ nextOf s over) × (listedNext r ≡ nextListed s over)
 
+-- doors::wear_version: the version
+abbrev pub WearVersions : ℕ → Type 0
+WearVersions r = r ≡ version
+
 -- the doors: whether too few cells are lent, the refusal and the values otherwise, the cells before and after, the refusal answered
 abbrev Lays : Bool → ℕ → List ℕ → List ℕ → List ℕ → ℕ → Type 0
 Lays few n values cells after r = (r ≡ refusalOr few n) × (after ≡ cellsOr few cells values)
@@ -114,3 +119,10 @@ WearRewrites s l size out after r = PutsOut (isFew 1 size) (rewriteOf s) l size 
 -- doors::wear_post: the page, the octets, the record number, the output and the length's cell before, the two after, the refusal
 abbrev pub WearPosts : List ℕ → List ℕ → ℕ → List ℕ → List ℕ → List ℕ → List ℕ → ℕ → Type 0
 WearPosts page s k l size out after r = PutsOut (isFew 1 size) (pagePosted page s k) l size out after r
+
+-- doors::wear_feed: the page, the octets, whether more may come, the output and the cells before, the two after, the refusal
+abbrev pub WearFeeds : List ℕ → List ℕ → ℕ → List ℕ → List ℕ → List ℕ → List ℕ → ℕ → Type 0
+WearFeeds page s more l cells out after r =
+    let few = isFew feedCellCount cells in
+    let x = within (length l) (pageFed page s (isOver more)) in
+    (r ≡ putRefusal few x) × (out ≡ putOutput few l x) × (after ≡ cellsOr few cells (feedCells x (feedRun page s (isOver more))))

@@ -6,4 +6,6 @@ pub mod Verdicts
 pub mod Given
 pub mod GivenWriting
 pub mod GivenPages
+pub mod GivenFeeds
+pub mod Pieces
 pub mod Rewritten

@@ -20,16 +20,17 @@ use Rattle.blocks.proofs.MarksLaws.{marks-refused}
 use Rattle.blocks.specs.declared.record.Record.{Record}
 use Rattle.writing.specs.Judged.{recordRefusal}
 use Rattle.writing.specs.Written.{writeOf}
+use Rattle.doors.specs.Cell as wear
 use Rattle.doors.specs.Cells.{cell, recordCells, recordOf, octetFits, extensionFits, itemFits, allFit, cellsRefusal}
 use Rattle.doors.specs.Answers.{cellsWritten}
 
--- the bits of a cell's place: 32 for marks and time, else 8; offsets and counts, from cell 30 on, have all of a cell
+-- the bits of a cell's place: 32 for marks and time, else 8; offsets and counts, which come last, have all of a cell
 abbrev pub bits : ℕ → ℕ
-bits i = pick (eqb i 1 || eqb i 8) 32 8
+bits i = pick (eqb i wear.marks || eqb i wear.time) 32 8
 
 -- each value of a record fits its place, as the code's types have it
 abbrev pub Held : Record → Type 0
-Held t = (i : ℕ) → i < 30 → cell (recordCells t) i < 2 ^ bits i
+Held t = (i : ℕ) → i < wear.entriesAt → cell (recordCells t) i < 2 ^ bits i
 
 -- what is refused by its category or marks is so in the cells and in the record
 first-tests : (k : Bool) (n r : ℕ) (x : Outcome)
@@ -42,76 +43,78 @@ module _ (t : Record) (held : Held t) where
   abbrev cs : List ℕ
   cs = recordCells t
 
-  low : (i : ℕ) → ltb i 30 ≡ true → cell cs i % 2 ^ bits i ≡ cell cs i
-  low i h = mod-eq-of-lt (held i (ltb-true i 30 h))
+  low : (i : ℕ) → ltb i wear.entriesAt ≡ true → cell cs i % 2 ^ bits i ≡ cell cs i
+  low i h = mod-eq-of-lt (held i (ltb-true i wear.entriesAt h))
 
   -- The record of a record's cells is the record.
   pub cells-record : recordOf cs ≡ t
   unfolding recordOf
   cells-record =
       simp (
-        low 0 refl,
-        low 1 refl,
-        low 2 refl,
-        low 3 refl,
-        low 4 refl,
-        low 5 refl,
-        low 6 refl,
-        low 7 refl,
-        low 8 refl,
-        low 9 refl,
-        low 10 refl,
-        low 11 refl,
-        low 12 refl,
-        low 13 refl,
-        low 14 refl,
-        low 15 refl,
-        low 16 refl,
-        low 17 refl,
-        low 18 refl,
-        low 19 refl,
-        low 20 refl,
-        low 21 refl,
-        low 22 refl,
-        low 23 refl,
-        low 24 refl,
-        low 25 refl,
-        low 26 refl,
-        low 27 refl,
-        low 28 refl,
-        low 29 refl,
+        low wear.category refl,
+        low wear.marks refl,
+        low wear.sac refl,
+        low wear.sic refl,
+        low wear.type refl,
+        low wear.service refl,
+        low wear.sid refl,
+        low wear.styp refl,
+        low wear.time refl,
+        low wear.batch refl,
+        low wear.nogo refl,
+        low wear.ovl refl,
+        low wear.tsv refl,
+        low wear.pss refl,
+        low wear.report refl,
+        low wear.gsNogo refl,
+        low wear.gsOdp refl,
+        low wear.gsOxt refl,
+        low wear.gsMsc refl,
+        low wear.gsTsv refl,
+        low wear.gsSpo refl,
+        low wear.gsRn refl,
+        low wear.gsExtended refl,
+        low wear.gssp refl,
+        low wear.rp refl,
+        low wear.sc refl,
+        low wear.scExtended refl,
+        low wear.ssrp refl,
+        low wear.range refl,
+        low wear.stat refl,
       )
 
-  small : (i : ℕ) → ltb i 30 ≡ true → bits i ≡ 8 → octetFits cs i ≡ true
-  small i h e = lt-ltb (cell cs i) (2 ^ 8) (rw e at (held i (ltb-true i 30 h)))
+  small : (i : ℕ) → ltb i wear.entriesAt ≡ true → bits i ≡ 8 → octetFits cs i ≡ true
+  small i h e = lt-ltb (cell cs i) (2 ^ 8) (rw e at (held i (ltb-true i wear.entriesAt h)))
 
   extension : (e i : ℕ) → octetFits cs e ≡ true → octetFits cs i ≡ true → extensionFits cs e i ≡ true
   extension e i a b = simp (a, b, or-true)
 
   item-held : (f : Form) → itemFits cs f ≡ true
   item-held Spare = refl
-  item-held Source = simp (small 2 refl refl, small 3 refl refl)
-  item-held MessageType = small 4 refl refl
-  item-held Service = simp (small 6 refl refl, small 7 refl refl)
-  item-held Identification = small 5 refl refl
-  item-held Time = lt-ltb (cell cs 8) (2 ^ 32) (held 8 (omega arith))
-  item-held Batch = small 9 refl refl
-  item-held Sdps = simp (small 10 refl refl, small 11 refl refl, small 12 refl refl, small 13 refl refl)
-  item-held Report = small 14 refl refl
+  item-held Source = simp (small wear.sac refl refl, small wear.sic refl refl)
+  item-held MessageType = small wear.type refl refl
+  item-held Service = simp (small wear.sid refl refl, small wear.styp refl refl)
+  item-held Identification = small wear.service refl refl
+  item-held Time = lt-ltb (cell cs wear.time) (2 ^ 32) (held wear.time (omega arith))
+  item-held Batch = small wear.batch refl refl
+  item-held Sdps = simp (small wear.nogo refl refl, small wear.ovl refl refl, small wear.tsv refl refl, small wear.pss refl refl)
+  item-held Report = small wear.report refl refl
   item-held Station =
       rw (
-        small 15 refl refl,
-        small 16 refl refl,
-        small 17 refl refl,
-        small 18 refl refl,
-        small 19 refl refl,
-        small 20 refl refl,
-        small 21 refl refl,
+        small wear.gsNogo refl refl,
+        small wear.gsOdp refl refl,
+        small wear.gsOxt refl refl,
+        small wear.gsMsc refl refl,
+        small wear.gsTsv refl refl,
+        small wear.gsSpo refl refl,
+        small wear.gsRn refl refl,
       )
-      (extension 22 23 (small 22 refl refl) (small 23 refl refl))
-  item-held Configuration = rw (small 24 refl refl, small 25 refl refl) (extension 26 27 (small 26 refl refl) (small 27 refl refl))
-  item-held Range = small 28 refl refl
-  item-held Status = small 29 refl refl
+      (extension wear.gsExtended wear.gssp (small wear.gsExtended refl refl) (small wear.gssp refl refl))
+  item-held Configuration =
+      rw (small wear.rp refl refl, small wear.sc refl refl)
+      (extension wear.scExtended wear.ssrp (small wear.scExtended refl refl) (small wear.ssrp refl refl))
+  item-held Range = small wear.range refl refl
+  item-held Status = small wear.stat refl refl
   item-held Statistics = refl
   item-held Versions = refl
   item-held Expansion = refl
@@ -127,7 +130,7 @@ module _ (t : Record) (held : Held t) where
   by-record : cellsRefusal cs ≡ pick (known (t .category)) (marksRefusal (category (t .category)) (t .marks)) unknownCategory
   unfolding cellsRefusal
   by-record =
-      let small = held 1 (omega arith) in
+      let small = held wear.marks (omega arith) in
       rw (marks-refused _ (t .marks) small, lt-leb (2 ^ 32) (t .marks) small, all-held (flagsOf 32 (t .marks)) (category (t .category) .fields))
 
   -- Writing a record's cells is writing the record.

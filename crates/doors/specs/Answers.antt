@@ -16,6 +16,10 @@ use Rattle.ledger.specs.Posts.{postOf}
 use Rattle.ledger.specs.declared.Answer.{Answer}
 use Rattle.doors.specs.Cells.{recordCells, recordOf, cellsRefusal}
 
+-- WEAR_VERSION
+abbrev pub version : ℕ
+version = 1
+
 -- Fewer cells than needed: 12 before all else, and nothing changed
 
 abbrev pub isFew : ℕ → List ℕ → Bool

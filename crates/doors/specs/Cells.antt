@@ -1,4 +1,4 @@
--- A record as 64-bit cells, in the order of include/wear.h: cell i is the i-th name of its enum.
+-- A record as 64-bit cells, in the order of include/wear.h.
 use mathlib.Core.Bool.{Bool, true, _&&_, _||_}
 use mathlib.Core.List.{List, [], _∷_}
 use Prim.Native.Nat.{ℕ, _%_, _^_}
@@ -12,49 +12,47 @@ use Rattle.layouts.specs.declared.form.Form.the-variants.{Spare, Source, Messag
 use Rattle.blocks.specs.Marks.{flagsOf}
 use Rattle.blocks.specs.Records.{marksSpare}
 use Rattle.blocks.specs.declared.record.Record.{Record}
+use Rattle.doors.specs.Cell as wear
 
--- WEAR_CELLS
-abbrev pub cellCount : ℕ
-cellCount = 36
-
+-- the cells of a record, in their order
 abbrev pub recordCells : Record → List ℕ
 recordCells t =
-    t .category  -- 0
-    ∷ t .marks  -- 1
-    ∷ t .source .sac  -- 2
-    ∷ t .source .sic  -- 3
-    ∷ t .«message_type»  -- 4
-    ∷ t .identification  -- 5, of 65
-    ∷ t .service .sid  -- 6, of 23
-    ∷ t .service .styp  -- 7
-    ∷ t .time .0  -- 8
-    ∷ t .batch  -- 9
-    ∷ t .sdps .nogo  -- 10
-    ∷ t .sdps .ovl  -- 11
-    ∷ t .sdps .tsv  -- 12
-    ∷ t .sdps .pss  -- 13
-    ∷ t .report  -- 14
-    ∷ t .station .nogo  -- 15
-    ∷ t .station .odp  -- 16
-    ∷ t .station .oxt  -- 17
-    ∷ t .station .msc  -- 18
-    ∷ t .station .tsv  -- 19
-    ∷ t .station .spo  -- 20
-    ∷ t .station .rn  -- 21
-    ∷ t .station .extended  -- 22
-    ∷ t .station .gssp .0  -- 23
-    ∷ t .configuration .rp .0  -- 24
-    ∷ t .configuration .sc  -- 25
-    ∷ t .configuration .extended  -- 26
-    ∷ t .configuration .ssrp .0  -- 27
-    ∷ t .range  -- 28
-    ∷ t .status  -- 29
-    ∷ t .entries .at  -- 30
-    ∷ t .entries .count  -- 31
-    ∷ t .expansion .at  -- 32
-    ∷ t .expansion .count  -- 33
-    ∷ t .purpose .at  -- 34
-    ∷ t .purpose .count  -- 35
+    t .category
+    ∷ t .marks
+    ∷ t .source .sac
+    ∷ t .source .sic
+    ∷ t .«message_type»
+    ∷ t .identification  -- of 65
+    ∷ t .service .sid  -- of 23
+    ∷ t .service .styp
+    ∷ t .time .0
+    ∷ t .batch
+    ∷ t .sdps .nogo
+    ∷ t .sdps .ovl
+    ∷ t .sdps .tsv
+    ∷ t .sdps .pss
+    ∷ t .report
+    ∷ t .station .nogo
+    ∷ t .station .odp
+    ∷ t .station .oxt
+    ∷ t .station .msc
+    ∷ t .station .tsv
+    ∷ t .station .spo
+    ∷ t .station .rn
+    ∷ t .station .extended
+    ∷ t .station .gssp .0
+    ∷ t .configuration .rp .0
+    ∷ t .configuration .sc
+    ∷ t .configuration .extended
+    ∷ t .configuration .ssrp .0
+    ∷ t .range
+    ∷ t .status
+    ∷ t .entries .at
+    ∷ t .entries .count
+    ∷ t .expansion .at
+    ∷ t .expansion .count
+    ∷ t .purpose .at
+    ∷ t .purpose .count
     ∷ []
 
 -- The record of given cells
@@ -72,33 +70,33 @@ module _ (cs : List ℕ) where
 
   unfoldable pub recordOf : Record
   recordOf = record {
-    category = octet 0;
-    marks = long 1;
-    source = record { sac = octet 2; sic = octet 3 };
-    «message_type» = octet 4;
-    identification = octet 5;
-    service = record { sid = octet 6; styp = octet 7 };
-    time = record { 0 = long 8 };
-    batch = octet 9;
-    sdps = record { nogo = octet 10; ovl = octet 11; tsv = octet 12; pss = octet 13 };
-    report = octet 14;
+    category = octet wear.category;
+    marks = long wear.marks;
+    source = record { sac = octet wear.sac; sic = octet wear.sic };
+    «message_type» = octet wear.type;
+    identification = octet wear.service;
+    service = record { sid = octet wear.sid; styp = octet wear.styp };
+    time = record { 0 = long wear.time };
+    batch = octet wear.batch;
+    sdps = record { nogo = octet wear.nogo; ovl = octet wear.ovl; tsv = octet wear.tsv; pss = octet wear.pss };
+    report = octet wear.report;
     station = record {
-      nogo = octet 15;
-      odp = octet 16;
-      oxt = octet 17;
-      msc = octet 18;
-      tsv = octet 19;
-      spo = octet 20;
-      rn = octet 21;
-      extended = octet 22;
-      gssp = record { 0 = octet 23 };
+      nogo = octet wear.gsNogo;
+      odp = octet wear.gsOdp;
+      oxt = octet wear.gsOxt;
+      msc = octet wear.gsMsc;
+      tsv = octet wear.gsTsv;
+      spo = octet wear.gsSpo;
+      rn = octet wear.gsRn;
+      extended = octet wear.gsExtended;
+      gssp = record { 0 = octet wear.gssp };
     };
-    configuration = record { rp = record { 0 = octet 24 }; sc = octet 25; extended = octet 26; ssrp = record { 0 = octet 27 } };
-    range = octet 28;
-    status = octet 29;
-    entries = record { at = cell 30; count = cell 31 };
-    expansion = record { at = cell 32; count = cell 33 };
-    purpose = record { at = cell 34; count = cell 35 };
+    configuration = record { rp = record { 0 = octet wear.rp }; sc = octet wear.sc; extended = octet wear.scExtended; ssrp = record { 0 = octet wear.ssrp } };
+    range = octet wear.range;
+    status = octet wear.stat;
+    entries = record { at = cell wear.entriesAt; count = cell wear.entries };
+    expansion = record { at = cell wear.reAt; count = cell wear.reOctets };
+    purpose = record { at = cell wear.spAt; count = cell wear.spOctets };
   }
 
   -- Whether the cells of an item fit their places: 8 bits for all, 32 for the time, 64 for offsets and counts, which every cell has. The
@@ -116,21 +114,23 @@ module _ (cs : List ℕ) where
 
   abbrev pub itemFits : Form → Bool
   itemFits Spare = true
-  itemFits Source = octetFits 2 && octetFits 3
-  itemFits MessageType = octetFits 4
-  itemFits Service = octetFits 6 && octetFits 7
-  itemFits Identification = octetFits 5
-  itemFits Time = longFits 8
-  itemFits Batch = octetFits 9
-  itemFits Sdps = octetFits 10 && (octetFits 11 && (octetFits 12 && octetFits 13))
-  itemFits Report = octetFits 14
+  itemFits Source = octetFits wear.sac && octetFits wear.sic
+  itemFits MessageType = octetFits wear.type
+  itemFits Service = octetFits wear.sid && octetFits wear.styp
+  itemFits Identification = octetFits wear.service
+  itemFits Time = longFits wear.time
+  itemFits Batch = octetFits wear.batch
+  itemFits Sdps = octetFits wear.nogo && (octetFits wear.ovl && (octetFits wear.tsv && octetFits wear.pss))
+  itemFits Report = octetFits wear.report
   itemFits Station =
-      octetFits 15
-      && (octetFits 16
-      && (octetFits 17 && (octetFits 18 && (octetFits 19 && (octetFits 20 && (octetFits 21 && extensionFits 22 23))))))
-  itemFits Configuration = octetFits 24 && (octetFits 25 && extensionFits 26 27)
-  itemFits Range = octetFits 28
-  itemFits Status = octetFits 29
+      octetFits wear.gsNogo
+      && (octetFits wear.gsOdp
+      && (octetFits wear.gsOxt
+      && (octetFits wear.gsMsc
+      && (octetFits wear.gsTsv && (octetFits wear.gsSpo && (octetFits wear.gsRn && extensionFits wear.gsExtended wear.gssp))))))
+  itemFits Configuration = octetFits wear.rp && (octetFits wear.sc && extensionFits wear.scExtended wear.ssrp)
+  itemFits Range = octetFits wear.range
+  itemFits Status = octetFits wear.stat
   itemFits Statistics = true
   itemFits Versions = true
   itemFits Expansion = true
@@ -144,12 +144,12 @@ module _ (cs : List ℕ) where
 
   -- a mark of a spare field or past the last, in any of the 64 bits
   abbrev pub spareCell : Bool
-  spareCell = leb (2 ^ 32) (cell 1) || marksSpare (flagsOf 32 (cell 1)) (category (cell 0) .fields)
+  spareCell = leb (2 ^ 32) (cell wear.marks) || marksSpare (flagsOf 32 (cell wear.marks)) (category (cell wear.category) .fields)
 
   -- 2, 6 and 5, and then 11 for a cell of a marked item that does not fit its place
   unfoldable pub cellsRefusal : ℕ
   cellsRefusal =
-      pick (known (cell 0))
-      (pick (eqb (cell 1) 0) noneMarked
-      (pick spareCell spareMarked (pick (allFit (flagsOf 32 (cell 1)) (category (cell 0) .fields)) 0 outOfRange)))
+      pick (known (cell wear.category))
+      (pick (eqb (cell wear.marks) 0) noneMarked
+      (pick spareCell spareMarked (pick (allFit (flagsOf 32 (cell wear.marks)) (category (cell wear.category) .fields)) 0 outOfRange)))
       unknownCategory

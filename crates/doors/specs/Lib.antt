@@ -1,2 +1,4 @@
+pub mod Cell
 pub mod Cells
 pub mod Answers
+pub mod Feeds

@@ -4,7 +4,9 @@ ghost use Prim.Native.Nat.{_+_, _≤_, _<_, _%_, _^_};
 ghost use lib.ListN.{length, getD};
 ghost use Rattle.layouts.specs.Categories.{category};
 ghost use Rattle.blocks.specs.Marks.{flagsOf};
-ghost use Rattle.doors.specs.Cells.{cellCount, recordCells, recordOf, octetFits, extensionFits, itemFits, allFit, cellsRefusal};
+ghost use Rattle.doors.specs.Cell.{cellCount};
+ghost use Rattle.doors.specs.Cells.{recordCells, recordOf, octetFits, extensionFits, itemFits, allFit, cellsRefusal};
+use crate::cell;
 use blocks::marks::marks_refusal;
 use blocks::record::Record;
 use items::typed::Configuration;
@@ -21,11 +23,8 @@ use layouts::category::is_known;
 use layouts::form::Form;
 use octets::refusal;
 
-// How many cells a record has.
-pub const RECORD_CELLS: usize = 36;
-
 // The cells of a record.
-pub fn record_cells(record: Record) -> [u64; RECORD_CELLS]
+pub fn record_cells(record: Record) -> [u64; cell::CELLS]
     ensures { λ r. ⌜ r ≡ recordCells «record» ⌝ }
 {
     [
@@ -99,8 +98,8 @@ fn source_of(cells: &[u64]) -> Source
     ensures { λ r. ⌜ r ≡ recordOf (now (cells .entry)) .source ⌝ }
 {
     Source {
-        sac: octet(cells, 2),
-        sic: octet(cells, 3),
+        sac: octet(cells, cell::SAC),
+        sic: octet(cells, cell::SIC),
     }
 }
 
@@ -109,8 +108,8 @@ fn service_of(cells: &[u64]) -> Service
     ensures { λ r. ⌜ r ≡ recordOf (now (cells .entry)) .service ⌝ }
 {
     Service {
-        sid: octet(cells, 6),
-        styp: octet(cells, 7),
+        sid: octet(cells, cell::SID),
+        styp: octet(cells, cell::STYP),
     }
 }
 
@@ -119,10 +118,10 @@ fn sdps_of(cells: &[u64]) -> Sdps
     ensures { λ r. ⌜ r ≡ recordOf (now (cells .entry)) .sdps ⌝ }
 {
     Sdps {
-        nogo: octet(cells, 10),
-        ovl: octet(cells, 11),
-        tsv: octet(cells, 12),
-        pss: octet(cells, 13),
+        nogo: octet(cells, cell::NOGO),
+        ovl: octet(cells, cell::OVL),
+        tsv: octet(cells, cell::TSV),
+        pss: octet(cells, cell::PSS),
     }
 }
 
@@ -131,15 +130,15 @@ fn station_of(cells: &[u64]) -> Station
     ensures { λ r. ⌜ r ≡ recordOf (now (cells .entry)) .station ⌝ }
 {
     Station {
-        nogo: octet(cells, 15),
-        odp: octet(cells, 16),
-        oxt: octet(cells, 17),
-        msc: octet(cells, 18),
-        tsv: octet(cells, 19),
-        spo: octet(cells, 20),
-        rn: octet(cells, 21),
-        extended: octet(cells, 22),
-        gssp: Seconds(octet(cells, 23)),
+        nogo: octet(cells, cell::GS_NOGO),
+        odp: octet(cells, cell::GS_ODP),
+        oxt: octet(cells, cell::GS_OXT),
+        msc: octet(cells, cell::GS_MSC),
+        tsv: octet(cells, cell::GS_TSV),
+        spo: octet(cells, cell::GS_SPO),
+        rn: octet(cells, cell::GS_RN),
+        extended: octet(cells, cell::GS_EXTENDED),
+        gssp: Seconds(octet(cells, cell::GSSP)),
     }
 }
 
@@ -148,10 +147,10 @@ fn configuration_of(cells: &[u64]) -> Configuration
     ensures { λ r. ⌜ r ≡ recordOf (now (cells .entry)) .configuration ⌝ }
 {
     Configuration {
-        rp: HalfSeconds(octet(cells, 24)),
-        sc: octet(cells, 25),
-        extended: octet(cells, 26),
-        ssrp: Seconds(octet(cells, 27)),
+        rp: HalfSeconds(octet(cells, cell::RP)),
+        sc: octet(cells, cell::SC),
+        extended: octet(cells, cell::SC_EXTENDED),
+        ssrp: Seconds(octet(cells, cell::SSRP)),
     }
 }
 
@@ -161,23 +160,23 @@ pub fn record_of(cells: &[u64]) -> Record
     ensures { λ r. ⌜ r ≡ recordOf (now (cells .entry)) ⌝ }
 {
     Record {
-        category: octet(cells, 0),
-        marks: long(cells, 1),
+        category: octet(cells, cell::CATEGORY),
+        marks: long(cells, cell::MARKS),
         source: source_of(cells),
-        message_type: octet(cells, 4),
-        identification: octet(cells, 5),
+        message_type: octet(cells, cell::TYPE),
+        identification: octet(cells, cell::SERVICE),
         service: service_of(cells),
-        time: TimeOfDay(long(cells, 8)),
-        batch: octet(cells, 9),
+        time: TimeOfDay(long(cells, cell::TIME)),
+        batch: octet(cells, cell::BATCH),
         sdps: sdps_of(cells),
-        report: octet(cells, 14),
+        report: octet(cells, cell::REPORT),
         station: station_of(cells),
         configuration: configuration_of(cells),
-        range: octet(cells, 28),
-        status: octet(cells, 29),
-        entries: place_of(cells, 30),
-        expansion: place_of(cells, 32),
-        purpose: place_of(cells, 34),
+        range: octet(cells, cell::RANGE),
+        status: octet(cells, cell::STAT),
+        entries: place_of(cells, cell::ENTRIES_AT),
+        expansion: place_of(cells, cell::RE_AT),
+        purpose: place_of(cells, cell::SP_AT),
     }
 }
 
@@ -207,28 +206,33 @@ fn sdps_fits(cells: &[u64]) -> bool
     requires { ⌜ cellCount ≤ length (now cells) ⌝ }
     ensures { λ r. ⌜ r ≡ itemFits (now (cells .entry)) Form.Sdps ⌝ }
 {
-    octet_fits(cells, 10) & octet_fits(cells, 11) & octet_fits(cells, 12) & octet_fits(cells, 13)
+    octet_fits(cells, cell::NOGO)
+        & octet_fits(cells, cell::OVL)
+        & octet_fits(cells, cell::TSV)
+        & octet_fits(cells, cell::PSS)
 }
 
 fn station_fits(cells: &[u64]) -> bool
     requires { ⌜ cellCount ≤ length (now cells) ⌝ }
     ensures { λ r. ⌜ r ≡ itemFits (now (cells .entry)) Form.Station ⌝ }
 {
-    octet_fits(cells, 15)
-        & octet_fits(cells, 16)
-        & octet_fits(cells, 17)
-        & octet_fits(cells, 18)
-        & octet_fits(cells, 19)
-        & octet_fits(cells, 20)
-        & octet_fits(cells, 21)
-        & extension_fits(cells, 22, 23)
+    octet_fits(cells, cell::GS_NOGO)
+        & octet_fits(cells, cell::GS_ODP)
+        & octet_fits(cells, cell::GS_OXT)
+        & octet_fits(cells, cell::GS_MSC)
+        & octet_fits(cells, cell::GS_TSV)
+        & octet_fits(cells, cell::GS_SPO)
+        & octet_fits(cells, cell::GS_RN)
+        & extension_fits(cells, cell::GS_EXTENDED, cell::GSSP)
 }
 
 fn configuration_fits(cells: &[u64]) -> bool
     requires { ⌜ cellCount ≤ length (now cells) ⌝ }
     ensures { λ r. ⌜ r ≡ itemFits (now (cells .entry)) Form.Configuration ⌝ }
 {
-    octet_fits(cells, 24) & octet_fits(cells, 25) & extension_fits(cells, 26, 27)
+    octet_fits(cells, cell::RP)
+        & octet_fits(cells, cell::SC)
+        & extension_fits(cells, cell::SC_EXTENDED, cell::SSRP)
 }
 
 // Whether the cells of an item fit their places.
@@ -237,18 +241,18 @@ fn item_fits(cells: &[u64], form: Form) -> bool
     ensures { λ r. ⌜ r ≡ itemFits (now (cells .entry)) form ⌝ }
 {
     match form {
-        Form::Source => octet_fits(cells, 2) & octet_fits(cells, 3),
-        Form::MessageType => octet_fits(cells, 4),
-        Form::Service => octet_fits(cells, 6) & octet_fits(cells, 7),
-        Form::Identification => octet_fits(cells, 5),
-        Form::Time => cells[8] < 0x1_0000_0000,
-        Form::Batch => octet_fits(cells, 9),
+        Form::Source => octet_fits(cells, cell::SAC) & octet_fits(cells, cell::SIC),
+        Form::MessageType => octet_fits(cells, cell::TYPE),
+        Form::Service => octet_fits(cells, cell::SID) & octet_fits(cells, cell::STYP),
+        Form::Identification => octet_fits(cells, cell::SERVICE),
+        Form::Time => cells[cell::TIME] < 0x1_0000_0000,
+        Form::Batch => octet_fits(cells, cell::BATCH),
         Form::Sdps => sdps_fits(cells),
-        Form::Report => octet_fits(cells, 14),
+        Form::Report => octet_fits(cells, cell::REPORT),
         Form::Station => station_fits(cells),
         Form::Configuration => configuration_fits(cells),
-        Form::Range => octet_fits(cells, 28),
-        Form::Status => octet_fits(cells, 29),
+        Form::Range => octet_fits(cells, cell::RANGE),
+        Form::Status => octet_fits(cells, cell::STAT),
         Form::Spare | Form::Statistics | Form::Versions | Form::Expansion | Form::Purpose => true,
     }
 }
@@ -283,17 +287,17 @@ pub fn cells_refusal(cells: &[u64]) -> u8
     requires { ⌜ cellCount ≤ length (now cells) ⌝ }
     ensures { λ r. ⌜ r ≡ cellsRefusal (now (cells .entry)) ⌝ }
 {
-    if 0xFF < cells[0] {
+    if 0xFF < cells[cell::CATEGORY] {
         return refusal::UNKNOWN_CATEGORY;
     }
-    let cat = octet(cells, 0);
+    let cat = octet(cells, cell::CATEGORY);
     if !is_known(cat) {
         return refusal::UNKNOWN_CATEGORY;
     }
-    if 0xFFFF_FFFF < cells[1] {
+    if 0xFFFF_FFFF < cells[cell::MARKS] {
         return refusal::SPARE_MARKED;
     }
-    let marks = long(cells, 1);
+    let marks = long(cells, cell::MARKS);
     let n = marks_refusal(cat, marks);
     if n != refusal::ACCEPTED {
         return n;

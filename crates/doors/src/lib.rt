@@ -1,5 +1,5 @@
-// The doors for C and Rust, as include/wear.h declares them. Each answers a refusal number; values go into 64-bit cells that the caller lends, and
-// where these are too few the answer is 12 before all else.
+// The doors for C and Rust, as include/wear.h declares them. Each but the version's answers a refusal number; values go into 64-bit cells that the
+// caller lends, and where these are too few the answer is 12 before all else.
 ghost use mathlib.Core.Bool.{_||_};
 ghost use mathlib.Core.List.{[], _∷_};
 ghost use mathlib.Core.Path.{_≡_};
@@ -10,15 +10,20 @@ ghost use Rattle.octets.specs.Outcomes.{within, answerOf, outputOf, listedWritt
 ghost use Rattle.blocks.specs.Walks.{readListed};
 ghost use Rattle.blocks.specs.Steps.{stepListed, entryListed};
 ghost use Rattle.writing.specs.Written.{rewriteOf};
-ghost use Rattle.doors.specs.Cells.{cellCount};
-ghost use Rattle.doors.specs.Answers.{isFew, refusalOr, cellsOr, readCells, stepCells, entryCells, putRefusal, putOutput, putLength, cellsWritten, pagePosted};
+ghost use Rattle.doors.specs.Cell.{cellCount, feedCellCount};
+ghost use Rattle.doors.specs.Answers.{version, isFew, refusalOr, cellsOr, readCells, stepCells, entryCells, putRefusal, putOutput, putLength, cellsWritten, pagePosted};
+ghost use Rattle.doors.specs.Feeds.{isOver, feedRun, pageFed, feedCells};
 
+pub mod cell;
 pub mod cells;
+pub mod feeds;
 
-use crate::cells::RECORD_CELLS;
 use crate::cells::cells_refusal;
 use crate::cells::record_cells;
 use crate::cells::record_of;
+use crate::feeds::Fed;
+use crate::feeds::done_cells;
+use crate::feeds::fed_page;
 use blocks::cursor::Cursor;
 use blocks::cursor::Found;
 use blocks::cursor::Step;
@@ -33,8 +38,11 @@ use octets::refusal;
 use writing::block::rewrite;
 use writing::block::write;
 
+// WEAR_VERSION of include/wear.h.
+pub const VERSION: u32 = 1;
+
 // The cells of a step: the offset, the next start, and the record's.
-const STEP_CELLS: usize = 2 + RECORD_CELLS;
+const STEP_CELLS: usize = 2 + cell::CELLS;
 
 // Values into cells from one on.
 fn lay(cells: &mut [u64], at: usize, values: &[u64])
@@ -46,6 +54,14 @@ fn lay(cells: &mut [u64], at: usize, values: &[u64])
         cells[at + i] = values[i];
         i += 1;
     }
+}
+
+// The version of these doors, to be compared with the header's.
+#[no_mangle]
+pub extern "C" fn wear_version() -> u32
+    ensures { λ r. ⌜ r ≡ version ⌝ }
+{
+    VERSION
 }
 
 // Offset, LEN, count of records.
@@ -152,7 +168,7 @@ pub extern "C" fn wear_write(cells: &[u64], source: &[u8], out: &mut [u8], size:
         × (now (out .exit) ≡ putOutput (isFew cellCount (now (cells .entry)) || isFew 1 (now (size .entry))) (now (out .entry)) (within (length (now (out .entry))) (cellsWritten (now (cells .entry)) (now (source .entry)))))
         × (now (size .exit) ≡ putLength (isFew cellCount (now (cells .entry)) || isFew 1 (now (size .entry))) (now (size .entry)) (within (length (now (out .entry))) (cellsWritten (now (cells .entry)) (now (source .entry))))) ⌝ }
 {
-    if cells.len() < RECORD_CELLS {
+    if cells.len() < cell::CELLS {
         return refusal::OUTPUT_TOO_SHORT as u32;
     }
     if size.len() < 1 {
@@ -214,4 +230,33 @@ pub extern "C" fn wear_post(
         return refusal::OUTPUT_TOO_SHORT as u32;
     }
     put_out(posted_page(page, s, k, out), size)
+}
+
+// The blocks at hand of a feed posted to the ledger of a page, and the ledger stored; `more` is 0 where the input ends with them.
+#[no_mangle]
+pub extern "C" fn wear_feed(
+    page: &[u8],
+    s: &[u8],
+    more: u32,
+    out: &mut [u8],
+    cells: &mut [u64],
+) -> u32
+    ensures { λ r. ⌜ (r ≡ putRefusal (isFew feedCellCount (now (cells .entry))) (within (length (now (out .entry))) (pageFed (now (page .entry)) (now (s .entry)) (isOver more))))
+        × (now (out .exit) ≡ putOutput (isFew feedCellCount (now (cells .entry))) (now (out .entry)) (within (length (now (out .entry))) (pageFed (now (page .entry)) (now (s .entry)) (isOver more))))
+        × (now (cells .exit) ≡ cellsOr (isFew feedCellCount (now (cells .entry))) (now (cells .entry)) (feedCells (within (length (now (out .entry))) (pageFed (now (page .entry)) (now (s .entry)) (isOver more))) (feedRun (now (page .entry)) (now (s .entry)) (isOver more)))) ⌝ }
+{
+    if cells.len() < cell::FEED_CELLS {
+        return refusal::OUTPUT_TOO_SHORT as u32;
+    }
+    let fed = fed_page(page, s, more == 0, out);
+    match fed {
+        Fed::Stored(size, done) => {
+            lay(cells, 0, &done_cells(size, done));
+            refusal::ACCEPTED as u32
+        }
+        Fed::Refused(n) => {
+            lay(cells, 0, &[0u64; cell::FEED_CELLS]);
+            n as u32
+        }
+    }
 }

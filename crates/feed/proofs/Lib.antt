@@ -9,3 +9,4 @@ pub mod NextTheorems
 pub mod RunTheorems
 pub mod FeedTheorems
 pub mod RunEnds
+pub mod CountedRuns

@@ -36,7 +36,7 @@ up-cases n k low high =
     test (leb (2 ^ 64) (n + k)) (λ t. high (leb-true (2 ^ 64) (n + k) t)) (λ f. low (leb-false (2 ^ 64) (n + k) f))
 
 -- a count has 64 bits
-up-fits : (n k : ℕ) → up n k < 2 ^ 64
+pub up-fits : (n k : ℕ) → up n k < 2 ^ 64
 up-fits n k = up-cases n k (λ h. rw (up-low n k h) h) (λ h. rw (up-high n k h) (omega arith))
 
 -- one that has reached 2^64 - 1 stays
@@ -50,8 +50,15 @@ up-up n a b =
     (λ h. rw (up-low n a h) (ap (λ m. pick (leb (2 ^ 64) m) (2 ^ 64 - 1) m) (add-assoc n a b)))
     (λ h. ap (λ m. up m b) (up-high n a h) ∙ up-full b ∙ sym (up-high n (a + b) (omega arith)))
 
+-- and it is the same to add the two up first
+pub up-sum : (n a b : ℕ) → up n (up a b) ≡ up n (a + b)
+up-sum n a b =
+    up-cases a b (λ h. ap (up n) (up-low a b h))
+    (λ h. ap (up n) (up-high a b h) ∙ up-cases n (2 ^ 64 - 1) (λ l. up-low n (2 ^ 64 - 1) l ∙ omega arith) (up-high n (2 ^ 64 - 1))
+    ∙ sym (up-high n (a + b) (omega arith)))
+
 -- up by none
-up-none : (n : ℕ) → n < 2 ^ 64 → up n 0 ≡ n
+pub up-none : (n : ℕ) → n < 2 ^ 64 → up n 0 ≡ n
 up-none n h = up-low n 0 (omega arith) ∙ add-zero n
 
 -- Answers counted: how often a number stands in a list of one
@@ -70,7 +77,7 @@ times-split k n ns = test (eqb n k) (λ t. rw t (omega arith)) (λ f. rw f (omeg
 
 -- The totals
 
-abbrev totals : ℕ → ℕ → ℕ → ℕ → Totals
+abbrev pub totals : ℕ → ℕ → ℕ → ℕ → Totals
 totals a r p u = record { accepted = a; refused = r; posted = p; unposted = u }
 
 -- the counts of records have 64 bits

@@ -17,7 +17,7 @@ use Rattle.ledger.specs.Steps.{Narrow, Kept}
 use Rattle.ledger.specs.declared.Answer.{Answer}
 use Rattle.ledger.proofs.CellLaws.{cells-long, cells-small, rows-back, kept-of, ruled-none}
 use Rattle.ledger.proofs.RowPlaces.{each-from, each-at}
-use Rattle.ledger.proofs.RuleLaws.{kept-rules}
+use Rattle.ledger.proofs.RuleLaws.{kept-rules, rules-kept}
 use Rattle.ledger.proofs.TableLaws.{listed-many}
 use Rattle.ledger.proofs.PageLaws.{Small, small-in, page-back, head-says, page-rows}
 use Rattle.ledger.proofs.PageSteps.{load-kept}
@@ -53,12 +53,14 @@ load-cases P s good bad =
     (λ f. rw f bad)
 
 -- Loading what was stored gives the ledger back.
-pub store-load : (cells : List ℕ) → Held cells → keepsRules cells ≡ true → loadOf (pageOf (rowsOf cells)) ≡ answer 0 cells
-store-load cells h k =
-    let kept = kept-rules cells h k in
+pub kept-load : (cells : List ℕ) → Kept cells → loadOf (pageOf (rowsOf cells)) ≡ answer 0 cells
+kept-load cells kept =
     let w = page-back (rowsOf cells) (kept-small cells kept) (kept .good .few) in
     let is : cellsIn (pageOf (rowsOf cells)) ≡ cells = ap cellsOf (w .1) ∙ sym (kept .rest) in
-    sym (load-kept (pageOf (rowsOf cells)) _ refl (w .0) cells (sym is) _ refl k)
+    sym (load-kept (pageOf (rowsOf cells)) _ refl (w .0) cells (sym is) _ refl (rules-kept cells kept))
+
+pub store-load : (cells : List ℕ) → Held cells → keepsRules cells ≡ true → loadOf (pageOf (rowsOf cells)) ≡ answer 0 cells
+store-load cells h k = kept-load cells (kept-rules cells h k)
 
 -- Storing what was loaded gives the octets.
 pub load-store : (s : List ℕ) → Octets s → (cells : List ℕ) → loadOf s ≡ answer 0 cells → storeOf cells ≡ puts s

@@ -1,6 +1,7 @@
 // A line of input, read octet by octet as it comes, so that no line is stored.
 use crate::store::put;
 use crate::store::repeat;
+use doors::cell::CELLS;
 use text::digits::Number;
 use text::digits::hex_value;
 use text::digits::with_digit;
@@ -23,6 +24,9 @@ pub const LOAD: u64 = 0x6C6F_6164;
 pub const STORE: u64 = 0x73_746F_7265;
 
 pub const FEED: u64 = 0x6665_6564;
+
+// The most numbers before the octets: the room, and the cells of a record.
+const MOST: usize = 1 + CELLS;
 
 // No digit waits for the other half of its octet.
 const NO_HALF: u8 = 16;
@@ -51,7 +55,7 @@ pub struct Case {
     pub operation: u64,
     pub given: usize,
     pub first: usize,
-    pub cells: [u64; 36],
+    pub cells: [u64; CELLS],
     pub len: usize,
 }
 
@@ -64,7 +68,7 @@ const NO_CASE: Case = Case {
     operation: 0,
     given: 0,
     first: 0,
-    cells: [0; 36],
+    cells: [0; CELLS],
     len: 0,
 };
 
@@ -84,19 +88,19 @@ fn wrong() -> Line {
     }
 }
 
-// How many numbers stand before the octets; 38 for what is no operation.
+// How many numbers stand before the octets; more than the most for what is no operation.
 fn numbers_of(operation: u64) -> usize {
     match operation {
         READ => 0,
         STEP => 1,
         ENTRY => 2,
         REWRITE => 1,
-        WRITE => 37,
+        WRITE => MOST,
         POST => 1,
         LOAD => 0,
         STORE => 1,
         FEED => 1,
-        _ => 38,
+        _ => MOST + 1,
     }
 }
 
@@ -121,7 +125,7 @@ fn letter(letters: u64, c: u8) -> Line {
 
 // Behind the operation's letters.
 fn named(letters: u64) -> Line {
-    if 37 < numbers_of(letters) {
+    if MOST < numbers_of(letters) {
         return wrong();
     }
     let mut case = NO_CASE;
@@ -149,10 +153,10 @@ fn numbered(mut case: Case, n: usize) -> Line {
     let given = case.given;
     if given == 0 {
         case.first = n;
-    } else if given < 37 {
+    } else if given < MOST {
         case.cells[given - 1] = n as u64;
     }
-    if given < 37 {
+    if given < MOST {
         case.given = given + 1;
     }
     Line {

@@ -4,6 +4,7 @@ use crate::case::REWRITE;
 use crate::case::STORE;
 use crate::case::unknown;
 use crate::ledgers::ledger_of;
+use doors::cell::CELLS;
 use doors::cells::cells_refusal;
 use doors::cells::record_of;
 use ledger::page::store;
@@ -59,7 +60,7 @@ fn say_written(text: &mut [u8], held: usize, out: &[u8], answer: Written) -> usi
 }
 
 // A record given as cells, which may be too wide for its places.
-fn write_cells(cells: [u64; 36], source: &[u8], out: &mut [u8]) -> Written {
+fn write_cells(cells: [u64; CELLS], source: &[u8], out: &mut [u8]) -> Written {
     let n = cells_refusal(&cells);
     if n != refusal::ACCEPTED {
         return Written::Refused(n);

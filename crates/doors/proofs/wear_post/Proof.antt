@@ -10,7 +10,7 @@ use Rattle.doors.proofs.wear_post.Tie as tie
 returns : tie.Need-returns
 returns c =
     let a = c .before .before .before .before .before .args in
-    put-few _ _ _ (pagePosted (a .page .now) (a .s .now) (a .k)) (lt-ltb _ 1 (c .if1 .taken))
+    put-few _ _ _ (pagePosted (a .page .now) (a .s .now) (a .k)) _ (lt-ltb _ 1 (c .if1 .taken))
 
 returns-2 : tie.Need-returns-2
 returns-2 c =

@@ -18,7 +18,7 @@ wear-rewrite-spec =
     tie.close
     (tie.spec
     (λ c. search needs)
-    (λ c. put-few _ _ _ (rewriteOf (c .before .before .before .before .args .s .now)) (lt-ltb _ 1 (c .if1 .taken)))
+    (λ c. put-few _ _ _ (rewriteOf (c .before .before .before .before .args .s .now)) _ (lt-ltb _ 1 (c .if1 .taken)))
     (λ c κs. search needs)
     (λ c κs. search needs)
     (λ c. search needs)

@@ -7,7 +7,7 @@ use lib.ListN.{length}
 use Rattle.octets.specs.Numbers.{laid}
 use Rattle.octets.proofs.Laying.{laid-laid}
 use Rattle.blocks.specs.Steps.{listedStep}
-use Rattle.doors.specs.Cells.{cellCount}
+use Rattle.doors.specs.Cell.{cellCount}
 use Rattle.doors.specs.Answers.{stepCells}
 use Rattle.doors.proofs.DoorSteps.{too-few, filled}
 use borrow.Author.Needs.{needs}

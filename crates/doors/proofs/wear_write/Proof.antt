@@ -6,7 +6,7 @@ use Prim.Native.Nat.{ℕ, _≤_, _<_}
 use lib.ListN.{length}
 use borrow.Author.Tests.{lt-ltb, le-ltb}
 use Rattle.octets.proofs.Outcomes.{says-no}
-use Rattle.doors.specs.Cells.{cellCount}
+use Rattle.doors.specs.Cell.{cellCount}
 use Rattle.doors.specs.Answers.{isFew, cellsWritten}
 use Rattle.doors.proofs.DoorSteps.{put-few, put-all, cells-refused, cells-taken}
 use borrow.Author.Needs.{needs}
@@ -28,13 +28,13 @@ returns : tie.Need-returns
 returns c =
     let a = c .before .before .before .before .before .args in
     let x = cellsWritten (a .cells .now) (a .source .now) in
-    put-few _ (a .out .now) (a .size .now) x (first (a .cells .now) (a .size .now) (c .if1 .taken))
+    put-few _ (a .out .now) (a .size .now) x _ (first (a .cells .now) (a .size .now) (c .if1 .taken))
 
 returns-2 : tie.Need-returns-2
 returns-2 c =
     let a = c .before .before .before .before .before .before .args in
     let x = cellsWritten (a .cells .now) (a .source .now) in
-    put-few _ (a .out .now) (a .size .now) x (second (a .cells .now) (a .size .now) (c .before .if1 .left) (c .if2 .taken))
+    put-few _ (a .out .now) (a .size .now) x _ (second (a .cells .now) (a .size .now) (c .before .if1 .left) (c .if2 .taken))
 
 returns-3 : tie.Need-returns-3
 returns-3 c =

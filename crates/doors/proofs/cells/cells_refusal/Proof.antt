@@ -13,6 +13,7 @@ use Rattle.layouts.specs.Categories.{known, category}
 use Rattle.blocks.specs.Marks.{flagsOf}
 use Rattle.blocks.specs.Records.{marksSpare, marksRefusal}
 use Rattle.blocks.proofs.MarksLaws.{marks-refused}
+use Rattle.doors.specs.Cell as wear
 use Rattle.doors.specs.Cells.{cell, allFit, cellsRefusal}
 use Rattle.doors.proofs.cells.cells_refusal.Statement.{statement}
 use Rattle.doors.proofs.cells.cells_refusal.Tie as tie
@@ -34,12 +35,14 @@ tests false false r = refl
 
 module _ (cs : List ℕ) where
   -- the category's cell does not fit, or the category is not read
-  wide-category : 255 < cell cs 0 → unknownCategory ≡ cellsRefusal cs
+  wide-category : 255 < cell cs wear.category → unknownCategory ≡ cellsRefusal cs
   unfolding cellsRefusal
-  wide-category h = rw (ne-eqb (cell cs 0) 23 (λ e. omega arith), ne-eqb (cell cs 0) 65 (λ e. omega arith), ne-eqb (cell cs 0) 242 (λ e. omega arith))
+  wide-category h =
+      let n = cell cs wear.category in
+      rw (ne-eqb n 23 (λ e. omega arith), ne-eqb n 65 (λ e. omega arith), ne-eqb n 242 (λ e. omega arith))
 
-  module _ {n : ℕ} (is : n ≡ cell cs 0 % 2 ^ 8) (small : cell cs 0 ≤ 255) where
-    cat : cell cs 0 ≡ n
+  module _ {n : ℕ} (is : n ≡ cell cs wear.category % 2 ^ 8) (small : cell cs wear.category ≤ 255) where
+    cat : cell cs wear.category ≡ n
     cat = omega arith
 
     unknown : known n ≡ false → unknownCategory ≡ cellsRefusal cs
@@ -47,12 +50,15 @@ module _ (cs : List ℕ) where
     unknown e = rw (cat, e)
 
     module _ (kn : known n ≡ true) where
-      wide-marks : 4294967295 < cell cs 1 → spareMarked ≡ cellsRefusal cs
+      wide-marks : 4294967295 < cell cs wear.marks → spareMarked ≡ cellsRefusal cs
       unfolding cellsRefusal
-      wide-marks h = rw (cat, kn, ne-eqb (cell cs 1) 0 (λ e. omega arith), le-leb (2 ^ 32) (cell cs 1) (omega arith))
+      wide-marks h =
+          let n = cell cs wear.marks in
+          rw (cat, kn, ne-eqb n 0 (λ e. omega arith), le-leb (2 ^ 32) n (omega arith))
 
-      module _ {m r : ℕ} (has : m ≡ cell cs 1 % 2 ^ 32) (low : cell cs 1 ≤ 4294967295) (judged : r ≡ marksRefusal (category n) m) where
-        marks : cell cs 1 ≡ m
+      module _ {m r : ℕ} (has : m ≡ cell cs wear.marks % 2 ^ 32) (low : cell cs wear.marks ≤ 4294967295)
+          (judged : r ≡ marksRefusal (category n) m) where
+        marks : cell cs wear.marks ≡ m
         marks = omega arith
 
         by-marks : cellsRefusal cs ≡ pick (eqb r 0) (pick (allFit cs (flagsOf 32 m) (category n .fields)) 0 outOfRange) r
