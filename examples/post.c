@@ -1,4 +1,5 @@
-/* Reads a block, steps over its records, and posts its statistics reports to the ledger of a page.
+/* Reads a block, steps over its records, and posts its statistics reports to the ledger of a page; then posts a feed,
+ * which comes in two pieces, to a fresh one.
  *
  *     rt staticlib doors
  *     cc -O2 -Iinclude -o post examples/post.c target/staticlib/libdoors.a
@@ -13,14 +14,24 @@
 static const uint8_t block[] = {0x17, 0x00, 0x13, 0xF1, 0x40, 0x01, 0x02, 0x03, 0x12, 0x00,
                                 0x00, 0x80, 0x01, 0x04, 0x00, 0x00, 0x00, 0x00, 0x64};
 
-/* A page has 8 octets, and 16 for each of at most 256 rows. This one is that of a fresh ledger. */
-static uint8_t page[8 + 16 * 256] = {0, 0, 0, 8, 0, 8, 0, 8};
-static size_t page_octets = 8;
+/* Four such blocks, with counts 100, 150 and 30 since midnight and 5 since the last report; behind the first is one of
+ * a category that is refused. The first piece ends within the third block. */
+static const uint8_t feed[] = {
+    0x17, 0x00, 0x13, 0xF1, 0x40, 0x01, 0x02, 0x03, 0x12, 0x00, 0x00, 0x80, 0x01, 0x04, 0x00, 0x00, 0x00, 0x00, 0x64,
+    0x30, 0x00, 0x04, 0x00,
+    0x17, 0x00, 0x13, 0xF1, 0x40, 0x01, 0x02, 0x03, 0x12, 0x00, 0x00, 0x80, 0x01, 0x04, 0x00, 0x00, 0x00, 0x00, 0x96,
+    0x17, 0x00, 0x13, 0xF1, 0x40, 0x01, 0x02, 0x03, 0x12, 0x00, 0x00, 0x80, 0x01, 0x04, 0x00, 0x00, 0x00, 0x00, 0x1E,
+    0x17, 0x00, 0x13, 0xF1, 0x40, 0x01, 0x02, 0x03, 0x12, 0x00, 0x00, 0x80, 0x01, 0x04, 0x80, 0x00, 0x00, 0x00, 0x05};
+enum { FIRST_PIECE = 30 };
+
+static const uint8_t fresh[WEAR_FRESH_OCTETS] = WEAR_FRESH_PAGE;
+static uint8_t page[WEAR_PAGE_MOST] = WEAR_FRESH_PAGE;
+static size_t page_octets = WEAR_FRESH_OCTETS;
 
 static void must(const char *what, uint32_t refusal)
 {
-    if (refusal != 0) {
-        printf("%s: refused, %" PRIu32 "\n", what, refusal);
+    if (refusal != WEAR_ACCEPTED) {
+        printf("%s: refused, %" PRIu32 ": %s\n", what, refusal, wear_sentence(refusal));
         exit(EXIT_FAILURE);
     }
 }
@@ -44,13 +55,19 @@ static void print_entries(uint64_t start, uint64_t entries)
 }
 
 /* The page before and the page after may not overlap. */
+static uint8_t after[WEAR_PAGE_MOST];
+
+static void keep_page(const uint8_t *octets, size_t n)
+{
+    memcpy(page, octets, n);
+    page_octets = n;
+}
+
 static void post(uint64_t record)
 {
-    static uint8_t after[sizeof page];
     uint64_t octets;
     must("post", wear_post(page, page_octets, block, sizeof block, record, after, sizeof after, &octets, 1));
-    memcpy(page, after, octets);
-    page_octets = octets;
+    keep_page(after, octets);
 }
 
 static void print_page(void)
@@ -63,7 +80,7 @@ static void print_page(void)
                number(counts + 8, 4));
 }
 
-int main(void)
+static void post_block(void)
 {
     uint64_t reading[3]; /* the offset of the faulty record, LEN, count of records */
     must("read", wear_read(block, sizeof block, reading, 3));
@@ -82,5 +99,48 @@ int main(void)
         start = step[1];
     }
     print_page();
+}
+
+static void print_feed(size_t octets, const uint64_t *cells)
+{
+    static const char *const left_off[] = {
+        [WEAR_ENDED] = "ended", [WEAR_STOPPED] = "stopped", [WEAR_MORE] = "more are needed"};
+    printf("%zu octets at hand, %" PRIu64 " used, %s\n", octets, cells[WEAR_FEED_USED],
+           left_off[cells[WEAR_FEED_LEFT_OFF]]);
+    printf("  accepted %" PRIu64 ", refused %" PRIu64 ", posted %" PRIu64 ", unposted %" PRIu64 "\n",
+           cells[WEAR_FEED_ACCEPTED], cells[WEAR_FEED_REFUSED], cells[WEAR_FEED_POSTED], cells[WEAR_FEED_UNPOSTED]);
+}
+
+/* Puts a piece behind the octets that were not used yet, and posts the blocks at hand. */
+static void take(const uint8_t *piece, size_t n, uint32_t more)
+{
+    static uint8_t hand[sizeof feed];
+    static size_t at_hand = 0;
+    uint64_t cells[WEAR_FEED_CELLS];
+    memcpy(hand + at_hand, piece, n);
+    at_hand += n;
+    must("feed", wear_feed(page, page_octets, hand, at_hand, more, after, sizeof after, cells, WEAR_FEED_CELLS));
+    print_feed(at_hand, cells);
+    keep_page(after, cells[WEAR_FEED_PAGE]);
+    at_hand -= cells[WEAR_FEED_USED];
+    memmove(hand, hand + cells[WEAR_FEED_USED], at_hand);
+}
+
+static void post_feed(void)
+{
+    keep_page(fresh, sizeof fresh);
+    take(feed, FIRST_PIECE, 1);
+    take(feed + FIRST_PIECE, sizeof feed - FIRST_PIECE, 0);
+    print_page();
+}
+
+int main(void)
+{
+    if (wear_version() != WEAR_VERSION) {
+        printf("the library is of version %" PRIu32 ", the header of %d\n", wear_version(), WEAR_VERSION);
+        return EXIT_FAILURE;
+    }
+    post_block();
+    post_feed();
     return EXIT_SUCCESS;
 }

@@ -1,4 +1,5 @@
-// Reads a block, steps over its records, and posts its statistics reports to the ledger of a page.
+// Reads a block, steps over its records, and posts its statistics reports to the ledger of a page; then posts a feed,
+// which comes in two pieces, to a fresh one.
 //
 //     rt staticlib doors
 //     rustc --edition 2021 -O -L target/staticlib -o post examples/post.rs
@@ -7,6 +8,7 @@
 mod wear {
     #[link(name = "doors", kind = "static")]
     extern "C" {
+        fn wear_version() -> u32;
         fn wear_read(octets: *const u8, n: usize, cells: *mut u64, k: usize) -> u32;
         fn wear_step(octets: *const u8, n: usize, start: u64, cells: *mut u64, k: usize) -> u32;
         fn wear_entry(octets: *const u8, n: usize, start: u64, number: u64, cells: *mut u64, k: usize)
@@ -22,7 +24,22 @@ mod wear {
             length: *mut u64,
             one: usize,
         ) -> u32;
+        fn wear_feed(
+            page: *const u8,
+            n: usize,
+            octets: *const u8,
+            m: usize,
+            more: u32,
+            out: *mut u8,
+            p: usize,
+            cells: *mut u64,
+            k: usize,
+        ) -> u32;
     }
+
+    pub const VERSION: u32 = 1;
+
+    pub const ACCEPTED: u32 = 0;
 
     pub const CATEGORY: usize = 0;
     pub const SAC: usize = 2;
@@ -31,15 +48,34 @@ mod wear {
     pub const ENTRIES: usize = 31;
     pub const CELLS: usize = 36;
 
-    /// A page of 256 rows.
-    const LONGEST_PAGE: usize = 8 + 16 * 256;
+    pub const FEED_PAGE: usize = 0;
+    pub const FEED_USED: usize = 1;
+    pub const FEED_LEFT_OFF: usize = 2;
+    pub const FEED_ACCEPTED: usize = 3;
+    pub const FEED_REFUSED: usize = 4;
+    pub const FEED_POSTED: usize = 5;
+    pub const FEED_UNPOSTED: usize = 6;
+    pub const FEED_CELLS: usize = 7;
+
+    pub const ENDED: u64 = 0;
+    pub const STOPPED: u64 = 1;
+    pub const MORE: u64 = 2;
+
+    pub const PAGE_MOST: usize = 8 + 16 * 256;
+    pub const FRESH_OCTETS: usize = 8;
+    pub const FRESH_PAGE: [u8; FRESH_OCTETS] = [0, 0, 0, 8, 0, 8, 0, 8];
 
     fn given<T>(refusal: u32, value: T) -> Result<T, u32> {
-        if refusal == 0 {
+        if refusal == ACCEPTED {
             Ok(value)
         } else {
             Err(refusal)
         }
+    }
+
+    pub fn version() -> u32 {
+        // SAFETY: nothing is lent.
+        unsafe { wear_version() }
     }
 
     /// LEN and the count of records.
@@ -70,7 +106,7 @@ mod wear {
 
     /// The page after a record is posted to the ledger of a page.
     pub fn post(page: &[u8], block: &[u8], number: u64) -> Result<Vec<u8>, u32> {
-        let mut out = vec![0; LONGEST_PAGE];
+        let mut out = vec![0; PAGE_MOST];
         let mut length = 0;
         let refusal = unsafe {
             wear_post(
@@ -88,6 +124,27 @@ mod wear {
         out.truncate(length as usize);
         given(refusal, out)
     }
+
+    /// The page after the blocks at hand are posted to the ledger of a page, and the cells.
+    pub fn feed(page: &[u8], octets: &[u8], more: u32) -> Result<(Vec<u8>, [u64; FEED_CELLS]), u32> {
+        let mut out = vec![0; PAGE_MOST];
+        let mut cells = [0; FEED_CELLS];
+        let refusal = unsafe {
+            wear_feed(
+                page.as_ptr(),
+                page.len(),
+                octets.as_ptr(),
+                octets.len(),
+                more,
+                out.as_mut_ptr(),
+                out.len(),
+                cells.as_mut_ptr(),
+                cells.len(),
+            )
+        };
+        out.truncate(cells[FEED_PAGE] as usize);
+        given(refusal, (out, cells))
+    }
 }
 
 /// One report of station 1/2, service 0x12: 100 messages transmitted since midnight.
@@ -96,8 +153,20 @@ const BLOCK: [u8; 19] = [
     0x00, 0x64,
 ];
 
-/// The page of a fresh ledger.
-const FRESH: [u8; 8] = [0, 0, 0, 8, 0, 8, 0, 8];
+/// Four such blocks, with counts 100, 150 and 30 since midnight and 5 since the last report; behind the first is one of
+/// a category that is refused. The first piece ends within the third block.
+const FEED: [u8; 80] = [
+    0x17, 0x00, 0x13, 0xF1, 0x40, 0x01, 0x02, 0x03, 0x12, 0x00, 0x00, 0x80, 0x01, 0x04, 0x00, 0x00, 0x00,
+    0x00, 0x64, //
+    0x30, 0x00, 0x04, 0x00, //
+    0x17, 0x00, 0x13, 0xF1, 0x40, 0x01, 0x02, 0x03, 0x12, 0x00, 0x00, 0x80, 0x01, 0x04, 0x00, 0x00, 0x00,
+    0x00, 0x96, //
+    0x17, 0x00, 0x13, 0xF1, 0x40, 0x01, 0x02, 0x03, 0x12, 0x00, 0x00, 0x80, 0x01, 0x04, 0x00, 0x00, 0x00,
+    0x00, 0x1E, //
+    0x17, 0x00, 0x13, 0xF1, 0x40, 0x01, 0x02, 0x03, 0x12, 0x00, 0x00, 0x80, 0x01, 0x04, 0x80, 0x00, 0x00,
+    0x00, 0x05,
+];
+const FIRST_PIECE: usize = 30;
 
 fn number(octets: &[u8]) -> u64 {
     octets.iter().fold(0, |n, &octet| n << 8 | u64::from(octet))
@@ -111,8 +180,8 @@ fn print_page(page: &[u8]) {
     }
 }
 
-fn run() -> Result<(), u32> {
-    let mut page = FRESH.to_vec();
+fn post_block() -> Result<(), u32> {
+    let mut page = wear::FRESH_PAGE.to_vec();
     let (len, records) = wear::read(&BLOCK)?;
     println!("LEN {len}, records {records}");
     let mut start = 3;
@@ -137,8 +206,45 @@ fn run() -> Result<(), u32> {
     Ok(())
 }
 
+fn print_feed(octets: usize, cells: &[u64; wear::FEED_CELLS]) {
+    let left_off = match cells[wear::FEED_LEFT_OFF] {
+        wear::ENDED => "ended",
+        wear::STOPPED => "stopped",
+        wear::MORE => "more are needed",
+        other => panic!("no way of leaving off has number {other}"),
+    };
+    println!("{octets} octets at hand, {} used, {left_off}", cells[wear::FEED_USED]);
+    println!(
+        "  accepted {}, refused {}, posted {}, unposted {}",
+        cells[wear::FEED_ACCEPTED],
+        cells[wear::FEED_REFUSED],
+        cells[wear::FEED_POSTED],
+        cells[wear::FEED_UNPOSTED]
+    );
+}
+
+/// Puts each piece behind the octets that were not used yet, and posts the blocks at hand.
+fn post_feed() -> Result<(), u32> {
+    let mut page = wear::FRESH_PAGE.to_vec();
+    let mut hand = Vec::new();
+    let (first, second) = FEED.split_at(FIRST_PIECE);
+    for (piece, more) in [(first, 1), (second, 0)] {
+        hand.extend_from_slice(piece);
+        let (after, cells) = wear::feed(&page, &hand, more)?;
+        print_feed(hand.len(), &cells);
+        page = after;
+        hand.drain(..cells[wear::FEED_USED] as usize);
+    }
+    print_page(&page);
+    Ok(())
+}
+
 fn main() {
-    if let Err(refusal) = run() {
+    if wear::version() != wear::VERSION {
+        println!("the library is of version {}, this of {}", wear::version(), wear::VERSION);
+        std::process::exit(1);
+    }
+    if let Err(refusal) = post_block().and_then(|()| post_feed()) {
         println!("refused, {refusal}");
         std::process::exit(1);
     }

@@ -1,8 +1,9 @@
 /* The collector box for C and for what can call C: link with target/staticlib/libdoors.a (made by `rt staticlib doors`).
  *
- * Every function answers a refusal number (README.md lists them), 0 where it accepts. A slice is a pointer and a length; nothing outside the
- * slices is read or written, and nothing is kept. Results go into 64-bit cells that the caller lends; where fewer cells are lent than a
- * function needs, of a record too, the answer is 12 before all else, and nothing is changed. Cells past those that are needed stay.
+ * Every function but wear_version answers a refusal number, 0 where it accepts. A slice is a pointer and a length; the pointer may be NULL
+ * exactly where the length is 0. Nothing outside the slices is read or written, and nothing is kept. Results go into 64-bit cells that the
+ * caller lends; where fewer cells are lent than a function needs, of a record too, the answer is 12 before all else, and nothing is
+ * changed. Cells past those that are needed stay.
  *
  * No lent slice that is written may overlap another.
  */
@@ -15,6 +16,58 @@
 #ifdef __cplusplus
 extern "C" {
 #endif
+
+/* The version of this header, and that of the library. They have to be equal. */
+#define WEAR_VERSION 1
+uint32_t wear_version(void);
+
+/* The refusal numbers. */
+enum {
+    WEAR_ACCEPTED = 0,
+    WEAR_TOO_SHORT = 1,
+    WEAR_UNKNOWN_CATEGORY = 2,
+    WEAR_LEN_TOO_SMALL = 3,
+    WEAR_LONG_SPECIFICATION = 4,
+    WEAR_SPARE_MARKED = 5,
+    WEAR_NONE_MARKED = 6,
+    WEAR_PASSES_END = 7,
+    WEAR_NO_COUNT = 8,
+    WEAR_PAST_LAST = 9,
+    WEAR_PRESENCE_BROKEN = 10,
+    WEAR_OUT_OF_RANGE = 11,
+    WEAR_OUTPUT_TOO_SHORT = 12,
+    WEAR_NOT_STATISTICS = 13,
+    WEAR_NO_ROOM = 14,
+    WEAR_LIFE_PASSES = 15,
+    WEAR_RULES_BROKEN = 16,
+    WEAR_NO_SUCH = 17
+};
+
+/* What a refusal says, as README.md has it. */
+static inline const char *wear_sentence(uint32_t refusal)
+{
+    switch (refusal) {
+    case WEAR_ACCEPTED: return "accepted";
+    case WEAR_TOO_SHORT: return "fewer than 3 octets, or LEN beyond the octets";
+    case WEAR_UNKNOWN_CATEGORY: return "a category other than 23, 65 and 242";
+    case WEAR_LEN_TOO_SMALL: return "LEN below 4";
+    case WEAR_LONG_SPECIFICATION: return "a field specification longer than the category allows";
+    case WEAR_SPARE_MARKED: return "a spare field is marked";
+    case WEAR_NONE_MARKED: return "no field is marked";
+    case WEAR_PASSES_END: return "a specification or an item passes LEN; when writing, a place outside the source";
+    case WEAR_NO_COUNT: return "a repetition of 0, or an opaque item shorter than its own length octet";
+    case WEAR_PAST_LAST: return "an item is extended beyond its last extension";
+    case WEAR_PRESENCE_BROKEN: return "an item is missing, or there where it must not be";
+    case WEAR_OUT_OF_RANGE: return "a value is out of its range";
+    case WEAR_OUTPUT_TOO_SHORT: return "the output is too short";
+    case WEAR_NOT_STATISTICS: return "not a statistics report: not category 23 type 3, or without 010, 015 or 120";
+    case WEAR_NO_ROOM: return "the ledger has no room for all new counters";
+    case WEAR_LIFE_PASSES: return "a life count would pass 2^64 - 1";
+    case WEAR_RULES_BROKEN: return "the ledger or the page breaks its rules";
+    case WEAR_NO_SUCH: return "there is no record or entry of this number";
+    default: return "no refusal has this number";
+    }
+}
 
 /* The cells of a record. An item, or an extension, that is absent has zeros. */
 enum {
@@ -77,10 +130,47 @@ uint32_t wear_write(const uint64_t *record, size_t k, const uint8_t *source, siz
 /* Rewrites a block in normal form. length[0] becomes the octets written, 0 on refusal. */
 uint32_t wear_rewrite(const uint8_t *octets, size_t n, uint8_t *out, size_t m, uint64_t *length, size_t one);
 
+/* A ledger's page, high octet first: the row count n, the offset of the keys (8), the offset of the readings (8 + 4n) and the length
+ * (8 + 16n), two octets each; then the keys, four octets each and rising strictly: SAC, SIC, the octet of 23/015, TYPE; then for each row
+ * the life count (8 octets) and the last reading since midnight (4), which never exceeds it. There are at most 256 rows. A page that is
+ * handed over has exactly its length. */
+#define WEAR_PAGE_MOST (8 + 16 * 256)
+
+/* The page of a fresh ledger, as an initialiser, and its octets. */
+#define WEAR_FRESH_PAGE {0, 0, 0, 8, 0, 8, 0, 8}
+#define WEAR_FRESH_OCTETS 8
+
 /* Posts record `number`, from 0, of a block to the ledger of a page, and stores the ledger as a page. length[0] becomes the octets of the
- * page, 0 on refusal: the page's 16, then the block's and the post's, then 12. */
+ * page, 0 on refusal: the page's 16, then the block's and the post's, then 12. Each call reads the whole block and judges the ledger's 256
+ * places twice, so that posting all records of a feed with it is quadratic in a block's records: use wear_feed for that. */
 uint32_t wear_post(const uint8_t *page, size_t n, const uint8_t *octets, size_t m, uint64_t number, uint8_t *out, size_t p,
                    uint64_t *length, size_t one);
+
+/* The cells of wear_feed, counted from 0 in each call. */
+enum {
+    WEAR_FEED_PAGE,         /* octets of the page */
+    WEAR_FEED_USED,         /* octets of the blocks that were passed */
+    WEAR_FEED_LEFT_OFF,     /* how it left off */
+    WEAR_FEED_ACCEPTED,     /* blocks */
+    WEAR_FEED_REFUSED,
+    WEAR_FEED_POSTED,       /* records of accepted blocks */
+    WEAR_FEED_UNPOSTED,     /* those answered 14 or 15; those answered 13 are in neither */
+    WEAR_FEED_CELLS         /* how many cells it needs */
+};
+
+/* How wear_feed left off. */
+enum {
+    WEAR_ENDED,             /* the input ends between blocks */
+    WEAR_STOPPED,           /* at a block whose LEN is below 4, or that is not whole where the input ends; it is counted as refused */
+    WEAR_MORE               /* more octets are needed */
+};
+
+/* Posts the records of all blocks at hand to the ledger of a page, as the program `wear` does, and stores the ledger as a page. A refused
+ * block is counted and skipped by LEN. `more` is 0 where the input ends with these octets; otherwise more may come. Where it leaves off
+ * with WEAR_MORE, the octets that were not used (fewer than 65,535) are handed over again in the next call, with those that followed.
+ * Cells: WEAR_FEED_PAGE and those after it, all 0 on refusal: the page's 16, then 12. */
+uint32_t wear_feed(const uint8_t *page, size_t n, const uint8_t *octets, size_t m, uint32_t more, uint8_t *out, size_t p, uint64_t *cells,
+                   size_t k);
 
 #ifdef __cplusplus
 }

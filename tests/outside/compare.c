@@ -1,7 +1,8 @@
 /* compare SEED COUNT <LINES: holds the library to the lines of vectors.py and to the model, on COUNT inputs made here.
  *
- * Both sides get equal copies of what is lent, each copy at a page with no access. Compared are the answer, every lent
- * cell and octet afterwards, and the octets beside a copy. */
+ * Both sides get equal copies of what is lent, each copy at a page with no access; an empty slice now and then is NULL.
+ * Compared are the answer, every lent cell and octet afterwards, and the octets beside a copy. Of a feed in pieces the
+ * library alone is asked: whether it gives what it gives for the whole. */
 #define _DEFAULT_SOURCE
 #include <inttypes.h>
 #include <setjmp.h>
@@ -16,13 +17,22 @@
 #include "model.h"
 #include "wear.h"
 
-enum function { READ, STEP, ENTRY, WRITE, REWRITE, POST, FUNCTIONS };
-static const char *const function_names[FUNCTIONS] = {"read", "step", "entry", "write", "rewrite", "post"};
+/* PIECES is FEED once more, with the same feed whole and in pieces. */
+enum function { READ, STEP, ENTRY, WRITE, REWRITE, POST, FEED, PIECES, FUNCTIONS };
+static const char *const function_names[FUNCTIONS] = {"read", "step", "entry", "write", "rewrite", "post", "feed",
+                                                      "pieces"};
 
-enum { ANSWERS = 18, REPORTED = 20 };
+enum { ANSWERS = MODEL_ANSWERS, REPORTED = 20 };
 
-/* The numbers that each function can answer, as bits; 12 also where too few cells are lent. */
-static const uint32_t can_answer[FUNCTIONS] = {0x01FFF, 0x21FFF, 0x21FFF, 0x01DE5, 0x01FFF, 0x3FFFF};
+/* The numbers that each function can answer, as bits; 12 also where too few cells are lent. Pieces have room enough. */
+static const uint32_t can_answer[FUNCTIONS] = {0x01FFF, 0x21FFF, 0x21FFF, 0x01DE5, 0x01FFF, 0x3FFFF, 0x11001, 0x10001};
+
+/* The numbers that the posts of a feed can get: 0, 13, 14, 15. */
+static const uint32_t posts_get = 0x0E001;
+
+enum { ENDINGS = 3 };
+static const char *const ending_names[ENDINGS] = {
+    [WEAR_ENDED] = "ended", [WEAR_STOPPED] = "stopped", [WEAR_MORE] = "more"};
 
 struct side {
     const char *name;
@@ -32,22 +42,36 @@ struct side {
     uint32_t (*write)(const uint64_t *, size_t, const uint8_t *, size_t, uint8_t *, size_t, uint64_t *, size_t);
     uint32_t (*rewrite)(const uint8_t *, size_t, uint8_t *, size_t, uint64_t *, size_t);
     uint32_t (*post)(const uint8_t *, size_t, const uint8_t *, size_t, uint64_t, uint8_t *, size_t, uint64_t *, size_t);
+    uint32_t (*feed)(const uint8_t *, size_t, const uint8_t *, size_t, uint32_t, uint8_t *, size_t, uint64_t *, size_t);
 };
 
 enum { LIBRARY, MODEL, SIDES };
 static const struct side sides[SIDES] = {
-    {"library", wear_read, wear_step, wear_entry, wear_write, wear_rewrite, wear_post},
-    {"model", model_read, model_step, model_entry, model_write, model_rewrite, model_post},
+    {"library", wear_read, wear_step, wear_entry, wear_write, wear_rewrite, wear_post, wear_feed},
+    {"model", model_read, model_step, model_entry, model_write, model_rewrite, model_post, model_feed},
 };
 
 /* ---- what is lent ---- */
 
-/* OCTETS are a block, or the source of a written record; CELLS take the answer or the length. */
+/* OCTETS are a block or a feed, or the source of a written record; CELLS take the answer or the length. */
 enum slice { OCTETS, PAGE, RECORD, OUT, CELLS, SLICES };
 static const char *const slice_names[SLICES] = {"octets", "page", "record", "output", "cells"};
 
-/* Whole pages whatever the page size is; MARGIN octets beside a copy have to stay. */
-enum { GUARD = 65536, ARENA = 2 * GUARD, MARGIN = 64, MOST_OCTETS = 66000, MOST_PAGE = 4400, MOST_CELLS = 48 };
+/* The slices that each function takes, as bits. PIECES has none of its own. */
+#define SLICE(slice) (1u << (slice))
+static const uint32_t takes[FUNCTIONS] = {
+    [READ] = SLICE(OCTETS) | SLICE(CELLS),
+    [STEP] = SLICE(OCTETS) | SLICE(CELLS),
+    [ENTRY] = SLICE(OCTETS) | SLICE(CELLS),
+    [WRITE] = SLICE(RECORD) | SLICE(OCTETS) | SLICE(OUT) | SLICE(CELLS),
+    [REWRITE] = SLICE(OCTETS) | SLICE(OUT) | SLICE(CELLS),
+    [POST] = SLICE(PAGE) | SLICE(OCTETS) | SLICE(OUT) | SLICE(CELLS),
+    [FEED] = SLICE(PAGE) | SLICE(OCTETS) | SLICE(OUT) | SLICE(CELLS),
+};
+
+/* Whole pages whatever the page size is; MARGIN octets beside a copy have to stay. A feed may have two of the longest
+ * blocks. */
+enum { GUARD = 65536, ARENA = 3 * GUARD, MARGIN = 64, MOST_OCTETS = 140000, MOST_PAGE = 4400, MOST_CELLS = 48 };
 
 static uint8_t given_octets[MOST_OCTETS], given_page[MOST_PAGE], given_out[MOST_OCTETS];
 static uint64_t given_record[MOST_CELLS], given_cells[MOST_CELLS];
@@ -57,7 +81,9 @@ static struct {
     enum function function;
     size_t octets, page, record, room, cells;
     uint64_t start, number;
+    uint32_t more;
     bool at_end;                    /* each slice ends at a page with no access; otherwise it begins behind one */
+    bool null;                      /* each slice that is empty is NULL */
     uint64_t index;
 } given;
 
@@ -105,12 +131,25 @@ static void lend(int side)
     }
 }
 
-static uint32_t call(const struct side *side, uint8_t *const *slices)
+static bool is_null(enum slice slice)
 {
-    const uint8_t *octets = slices[OCTETS], *page = slices[PAGE];
-    const uint64_t *record = (const uint64_t *)(void *)slices[RECORD];
-    uint64_t *cells = (uint64_t *)(void *)slices[CELLS];
-    uint8_t *out = slices[OUT];
+    size_t size;
+    given_slice(slice, &size);
+    return given.null && size == 0;
+}
+
+static uint8_t *handed(int side, enum slice slice)
+{
+    return is_null(slice) ? NULL : lent[side][slice];
+}
+
+static uint32_t call(int which)
+{
+    const struct side *side = &sides[which];
+    const uint8_t *octets = handed(which, OCTETS), *page = handed(which, PAGE);
+    const uint64_t *record = (const uint64_t *)(void *)handed(which, RECORD);
+    uint64_t *cells = (uint64_t *)(void *)handed(which, CELLS);
+    uint8_t *out = handed(which, OUT);
     switch (given.function) {
     case READ:
         return side->read(octets, given.octets, cells, given.cells);
@@ -122,8 +161,10 @@ static uint32_t call(const struct side *side, uint8_t *const *slices)
         return side->write(record, given.record, octets, given.octets, out, given.room, cells, given.cells);
     case REWRITE:
         return side->rewrite(octets, given.octets, out, given.room, cells, given.cells);
-    default:
+    case POST:
         return side->post(page, given.page, octets, given.octets, given.number, out, given.room, cells, given.cells);
+    default:
+        return side->feed(page, given.page, octets, given.octets, given.more, out, given.room, cells, given.cells);
     }
 }
 
@@ -139,6 +180,7 @@ static struct {
 } stored;
 
 static uint64_t seed, reported, cases[FUNCTIONS], differing[FUNCTIONS], answers[FUNCTIONS][ANSWERS];
+static uint64_t endings[FUNCTIONS][ENDINGS], nulls[FUNCTIONS][SLICES], posts[ANSWERS];
 
 static const char *lent_difference(enum slice slice)
 {
@@ -213,7 +255,8 @@ static void print_case(const char *what)
     printf("%s: %s, %s %" PRIu64 " of seed %" PRIu64 "; each slice %s a page with no access\n", what,
            function_names[given.function], stored.known ? "line" : "input", given.index, seed,
            given.at_end ? "ends at" : "begins behind");
-    printf("  start %" PRIu64 ", number %" PRIu64 "\n", given.start, given.number);
+    printf("  start %" PRIu64 ", number %" PRIu64 ", more %" PRIu32 "%s\n", given.start, given.number, given.more,
+           given.null ? "; empty slices are NULL" : "");
     for (enum slice slice = 0; slice < SLICES; slice++) {
         size_t size;
         const uint8_t *octets = given_slice(slice, &size);
@@ -239,17 +282,37 @@ static void print_answers(void)
     }
 }
 
+/* How a feed left off, and of every eighth what its posts got. */
+static void note_feed(void)
+{
+    uint64_t cells[WEAR_FEED_CELLS];
+    memcpy(cells, lent[MODEL][CELLS], sizeof cells);
+    endings[FEED][cells[WEAR_FEED_LEFT_OFF]]++;
+    if (cases[FEED] % 8 == 0)
+        model_posts(given_page, given.page, given_octets, given.octets, posts);
+}
+
+/* What a case has tried, as the model sees it. */
+static void note_case(void)
+{
+    cases[given.function]++;
+    answers[given.function][answer[MODEL]]++;
+    for (enum slice slice = 0; slice < SLICES; slice++)
+        nulls[given.function][slice] += is_null(slice) && (takes[given.function] & SLICE(slice));
+    if (given.function == FEED && answer[MODEL] == WEAR_ACCEPTED)
+        note_feed();
+}
+
 static void run_case(void)
 {
     for (int side = 0; side < SIDES; side++)
         lend(side);
     for (int side = 0; side < SIDES; side++) {
         calling = side;
-        answer[side] = call(&sides[side], lent[side]);
+        answer[side] = call(side);
     }
     calling = -1;
-    cases[given.function]++;
-    answers[given.function][answer[MODEL]]++;
+    note_case();
     const char *what = difference();
     if (!what)
         return;
@@ -377,32 +440,58 @@ static enum function function_word(const char *name)
     exit(1);
 }
 
-/* The arguments, then the stored answer, in the order that vectors.py gives. */
-static void parse_line(char *line, uint64_t index)
+static bool has_output(enum function function)
 {
-    begin_case(function_word(strtok(line, " \n")), index);
-    stored.known = true;
-    stored.out = 0;
+    return takes[function] & SLICE(OUT);
+}
+
+static size_t cells_needed(enum function function)
+{
+    switch (function) {
+    case READ: return 3;
+    case STEP: return 2 + WEAR_CELLS;
+    case ENTRY: return 4;
+    case FEED: return WEAR_FEED_CELLS;
+    default: return 1;
+    }
+}
+
+static void parse_arguments(void)
+{
     if (given.function == WRITE)
         cell_words(given_record, given.record = WEAR_CELLS);
-    if (given.function == POST)
+    if (given.function == POST || given.function == FEED)
         given.page = octets_word(given_page, MOST_PAGE);
     given.octets = octets_word(given_octets, MOST_OCTETS);
     if (given.function == STEP || given.function == ENTRY)
         given.start = number_word();
     if (given.function == ENTRY || given.function == POST)
         given.number = number_word();
-    if (given.function == WRITE || given.function == REWRITE || given.function == POST)
+    if (given.function == FEED)
+        given.more = (uint32_t)number_word();
+    if (has_output(given.function))
         given.room = (size_t)number_word();
+}
+
+/* Where the only cell is the length of the output, the line does not say it. */
+static void parse_answer(void)
+{
+    stored.known = true;
     stored.number = (uint32_t)number_word();
-    if (given.function == WRITE || given.function == REWRITE || given.function == POST) {
-        stored.out = octets_word(stored.octets, MOST_OCTETS);
-        stored.cells = 1;
+    stored.out = has_output(given.function) ? octets_word(stored.octets, MOST_OCTETS) : 0;
+    stored.cells = cells_needed(given.function);
+    if (stored.cells == 1)
         stored.cell[0] = stored.out;
-    } else {
-        stored.cells = given.function == READ ? 3 : given.function == STEP ? 2 + WEAR_CELLS : 4;
+    else
         cell_words(stored.cell, stored.cells);
-    }
+}
+
+/* The arguments, then the stored answer, in the order that vectors.py gives. */
+static void parse_line(char *line, uint64_t index)
+{
+    begin_case(function_word(strtok(line, " \n")), index);
+    parse_arguments();
+    parse_answer();
     given.cells = stored.cells + 2;
     memset(given_out, 0xEE, given.room);
 }
@@ -472,6 +561,7 @@ static size_t pieces;
 static size_t starts[MOST_OCTETS / 4], records;
 static unsigned category;
 static enum fault fault;
+static bool crowded;                /* each report has many counters, so that a few fill a ledger */
 
 static void put(uint64_t octet)
 {
@@ -520,8 +610,8 @@ static uint64_t few_or_many(void)
 
 static void put_statistics(void)
 {
-    uint64_t count = fault == REP_0 ? 0 : few_or_many();
-    bool few_types = !one_in(4);
+    uint64_t count = fault == REP_0 ? 0 : crowded ? 60 + below(196) : few_or_many();
+    bool few_types = !crowded && !one_in(4);
     put(count);
     for (uint64_t i = 0; i < count; i++) {
         uint64_t number = counted();
@@ -891,14 +981,14 @@ static uint64_t cells_of_step[2 + WEAR_CELLS];
 static void make_read(void)
 {
     make_octets(false);
-    given.cells = lent_cells(3);
+    given.cells = lent_cells(cells_needed(READ));
 }
 
 static void make_step(void)
 {
     make_octets(false);
     given.start = start_of_case();
-    given.cells = lent_cells(2 + WEAR_CELLS);
+    given.cells = lent_cells(cells_needed(STEP));
 }
 
 static void make_entry(void)
@@ -908,7 +998,7 @@ static void make_entry(void)
     model_step(given_octets, given.octets, given.start, cells_of_step, 2 + WEAR_CELLS);
     uint64_t entries = cells_of_step[2 + WEAR_ENTRIES];
     given.number = one_in(6) ? ONE_OF(entries, entries + 1, entries - 1, edge()) : below(entries + 1);
-    given.cells = lent_cells(4);
+    given.cells = lent_cells(cells_needed(ENTRY));
 }
 
 /* A room about what is needed; where nothing would be written, any. */
@@ -1189,48 +1279,311 @@ static void make_post(void)
     lend_room(number ? below(60) : length);
 }
 
+/* ---- feeds ---- */
+
+static uint8_t gathered[MOST_OCTETS];
+static size_t gathered_octets;
+
+/* Puts what was made behind what was gathered, as far as there is room. */
+static void gather(void)
+{
+    size_t left = MOST_OCTETS - gathered_octets, size = given.octets < left ? given.octets : left;
+    memcpy(gathered + gathered_octets, given_octets, size);
+    gathered_octets += size;
+}
+
+/* Mostly good; or refused and skipped; or spoilt in any way, so that LEN may lead astray; or with a LEN below 4. */
+static void make_feed_block(size_t count)
+{
+    uint64_t kind = below(24);
+    make_block(count, LONGEST, !one_in(4), kind < 3 ? 1 + below(FAULTS - 1) : NO_FAULT);
+    if (kind == 3)
+        given_octets[0] = (uint8_t)ONE_OF(0, 22, 24, 48, 64, 66, 241, 243, 255);
+    else if (kind == 4)
+        spoil_block();
+    else if (kind == 5 && one_in(4))
+        set_len(below(4));
+}
+
+/* What the input ends with: mostly a whole block; or one that is cut short; or octets that are no block. */
+static void end_feed(void)
+{
+    switch (below(8)) {
+    case 0:
+        gathered_octets = below(gathered_octets + 1);
+        break;
+    case 1:
+        gathered_octets -= gathered_octets > 20 ? 1 + below(20) : 0;
+        break;
+    case 2:
+        make_noise();
+        gather();
+        break;
+    default:
+        break;
+    }
+}
+
+static uint64_t feed_blocks(void)
+{
+    return one_in(20) ? 0 : one_in(12) ? 1 + below(20) : 1 + below(4);
+}
+
+/* Some blocks, or none; now and then some of the longest. The keys of one report are noted for the page. */
+static void make_feed_octets(void)
+{
+    bool longest = given.index % 1009 == 0;
+    crowded = one_in(50);
+    gathered_octets = 0;
+    reported_count = 0;
+    for (uint64_t blocks = longest ? 2 + below(2) : feed_blocks(); blocks > 0; blocks--) {
+        make_feed_block(longest && !one_in(4) ? 500 + below(13000) : record_count());
+        given.number = below(records);
+        if (one_in(2) || reported_count == 0)
+            note_reported_keys();
+        gather();
+    }
+    crowded = false;
+    end_feed();
+    memcpy(given_octets, gathered, gathered_octets);
+    given.octets = gathered_octets;
+    given.number = 0;
+}
+
+static void make_pieces(void)
+{
+    make_feed_octets();
+    make_page();
+    if (one_in(8))
+        spoil_page();
+    given.more = (uint32_t)(one_in(2) ? 0 : ONE_OF(1, 2, UINT32_MAX));
+}
+
+static void make_feed(void)
+{
+    uint64_t cells[WEAR_FEED_CELLS];
+    make_pieces();
+    uint32_t number = model_feed(given_page, given.page, given_octets, given.octets, given.more, scratch,
+                                 sizeof scratch, cells, WEAR_FEED_CELLS);
+    lend_room(number ? below(60) : cells[WEAR_FEED_PAGE]);
+    given.cells = lent_cells(cells_needed(FEED));
+}
+
+/* ---- feeds in pieces ---- */
+
+enum { MOST_CUTS = 3 };
+
+/* What one call for a feed gave, or more than one. */
+struct fed {
+    uint32_t answer;
+    uint8_t page[WEAR_PAGE_MOST];
+    uint64_t cells[WEAR_FEED_CELLS];
+};
+
+static struct fed whole, in_pieces;
+static size_t ends[MOST_CUTS + 1];      /* of the pieces */
+
+static size_t cut_feed(void)
+{
+    size_t cuts = 1 + below(MOST_CUTS), at = 0;
+    for (size_t i = 0; i < cuts; i++)
+        ends[i] = at += below(given.octets - at + 1);
+    ends[cuts] = given.octets;
+    return cuts + 1;
+}
+
+/* The octets from `at` to `end` stand at a page with no access. */
+static void feed_library(const uint8_t *page, size_t n, size_t at, size_t end, uint32_t more, struct fed *fed)
+{
+    size_t size = end - at;
+    uint8_t *octets = arenas[LIBRARY][OCTETS] + (given.at_end ? ARENA - size : 0);
+    memcpy(octets, given_octets + at, size);
+    calling = LIBRARY;
+    fed->answer = sides[LIBRARY].feed(page, n, size || !given.null ? octets : NULL, size, more, fed->page,
+                                      sizeof fed->page, fed->cells, WEAR_FEED_CELLS);
+    calling = -1;
+}
+
+/* The page and how it left off are the last call's. */
+static void add_cells(uint64_t *sums, const uint64_t *cells)
+{
+    for (size_t i = 0; i < WEAR_FEED_CELLS; i++)
+        sums[i] += cells[i];
+    sums[WEAR_FEED_PAGE] = cells[WEAR_FEED_PAGE];
+    sums[WEAR_FEED_LEFT_OFF] = cells[WEAR_FEED_LEFT_OFF];
+}
+
+/* Whether the next piece is to be handed over; not where the cells cannot be true. */
+static bool goes_on(const struct fed *fed, size_t octets)
+{
+    return fed->answer == WEAR_ACCEPTED && fed->cells[WEAR_FEED_LEFT_OFF] == WEAR_MORE &&
+           fed->cells[WEAR_FEED_USED] <= octets && fed->cells[WEAR_FEED_PAGE] <= WEAR_PAGE_MOST;
+}
+
+/* Octets that a call has not used are handed over again, with the next piece. */
+static void feed_in_pieces(size_t count)
+{
+    static uint8_t before[WEAR_PAGE_MOST];
+    const uint8_t *page = given_page;
+    size_t n = given.page, at = 0;
+    uint64_t sums[WEAR_FEED_CELLS] = {0};
+    for (size_t i = 0; i < count; i++) {
+        feed_library(page, n, at, ends[i], i + 1 < count ? 1 : given.more, &in_pieces);
+        add_cells(sums, in_pieces.cells);
+        if (!goes_on(&in_pieces, ends[i] - at))
+            break;
+        at = sums[WEAR_FEED_USED];
+        n = sums[WEAR_FEED_PAGE];
+        page = memcpy(before, in_pieces.page, n);
+    }
+    memcpy(in_pieces.cells, sums, sizeof sums);
+}
+
+static void print_pieces(size_t count)
+{
+    print_case("a feed in pieces gives otherwise than the whole");
+    printf("  pieces end at:");
+    for (size_t i = 0; i < count; i++)
+        printf(" %zu", ends[i]);
+    printf("\n whole: %" PRIu32 "\n", whole.answer);
+    print_cells("cells", (const uint8_t *)whole.cells, sizeof whole.cells);
+    print_octets("page", whole.page, sizeof whole.page);
+    printf(" in pieces: %" PRIu32 "\n", in_pieces.answer);
+    print_cells("cells", (const uint8_t *)in_pieces.cells, sizeof in_pieces.cells);
+    print_octets("page", in_pieces.page, sizeof in_pieces.page);
+}
+
+static void run_pieces(void)
+{
+    size_t count = cut_feed();
+    memset(&whole, 0, sizeof whole);
+    memset(&in_pieces, 0, sizeof in_pieces);
+    feed_library(given_page, given.page, 0, given.octets, given.more, &whole);
+    feed_in_pieces(count);
+    cases[PIECES]++;
+    answers[PIECES][whole.answer % ANSWERS]++;
+    if (whole.answer == WEAR_ACCEPTED)
+        endings[PIECES][whole.cells[WEAR_FEED_LEFT_OFF] % ENDINGS]++;
+    size_t octets = whole.cells[WEAR_FEED_PAGE] % (WEAR_PAGE_MOST + 1);
+    if (whole.answer == in_pieces.answer && !memcmp(whole.cells, in_pieces.cells, sizeof whole.cells) &&
+        !memcmp(whole.page, in_pieces.page, octets))
+        return;
+    differing[PIECES]++;
+    if (reported++ < REPORTED)
+        print_pieces(count);
+}
+
 /* ---- the run ---- */
+
+/* Leaves one slice empty. */
+static void empty_slice(void)
+{
+    switch (below(SLICES)) {
+    case OCTETS: given.octets = 0; break;
+    case PAGE: given.page = 0; break;
+    case RECORD: given.record = 0; break;
+    case OUT: given.room = 0; break;
+    default: given.cells = 0;
+    }
+}
 
 static void make_case(uint64_t index)
 {
-    static const enum function shares[20] = {
+    static const enum function shares[] = {
         READ, READ, READ, STEP, STEP, STEP, ENTRY, ENTRY, ENTRY, WRITE, WRITE, WRITE, WRITE, REWRITE, REWRITE, REWRITE,
-        POST, POST, POST, POST};
+        POST, POST, POST, POST, FEED, FEED, PIECES};
     state = seed * UINT64_C(0xD1342543DE82EF95) + index;
     state = chance();
-    begin_case(shares[below(20)], index);
+    begin_case(shares[below(sizeof shares / sizeof *shares)], index);
+    given.null = one_in(8);
     switch (given.function) {
     case READ: make_read(); break;
     case STEP: make_step(); break;
     case ENTRY: make_entry(); break;
     case WRITE: make_write(); break;
     case REWRITE: make_rewrite(); break;
-    default: make_post();
+    case POST: make_post(); break;
+    case FEED: make_feed(); break;
+    default: make_pieces();
     }
+    if (given.null && one_in(4))
+        empty_slice();
 }
 
-/* A line for each function, and for all of them whether anything differs. */
-static bool told(const char *title, bool all_answers)
+/* How often something was met; false where it has to be and never was. */
+static bool told_count(const char *name, uint64_t count, bool has_to_be)
+{
+    if (count)
+        printf(" %s:%" PRIu64, name, count);
+    else if (has_to_be)
+        printf(" NEVER %s", name);
+    return count || !has_to_be;
+}
+
+static bool told_numbers(const uint64_t *counts, uint32_t have_to_be)
+{
+    bool good = true;
+    for (unsigned number = 0; number < ANSWERS; number++) {
+        char name[12];
+        snprintf(name, sizeof name, "%u", number);
+        good = told_count(name, counts[number], have_to_be >> number & 1) && good;
+    }
+    return good;
+}
+
+/* How a feed left off, and what its posts got. */
+static bool told_feed(enum function function, bool all)
+{
+    bool good = true;
+    printf("; left off");
+    for (size_t ending = 0; ending < ENDINGS; ending++)
+        good = told_count(ending_names[ending], endings[function][ending], all) && good;
+    if (function != FEED)
+        return good;
+    printf("; posts");
+    return told_numbers(posts, all ? posts_get : 0) && good;
+}
+
+static bool told_nulls(enum function function)
+{
+    bool good = true;
+    printf("; NULL for");
+    for (enum slice slice = 0; slice < SLICES; slice++)
+        good = told_count(slice_names[slice], nulls[function][slice], takes[function] & SLICE(slice)) && good;
+    return good;
+}
+
+/* A line for each function, and for all of them whether anything differs, or was never met where all has to be. */
+static bool told(const char *title, bool all)
 {
     bool good = true;
     for (enum function function = 0; function < FUNCTIONS; function++) {
+        if (!all && cases[function] == 0)
+            continue;
         printf("%s %-7s %7" PRIu64 " cases, %" PRIu64 " differences;", title, function_names[function], cases[function],
                differing[function]);
-        for (unsigned number = 0; number < ANSWERS; number++)
-            if (answers[function][number])
-                printf(" %u:%" PRIu64, number, answers[function][number]);
-        for (unsigned number = 0; all_answers && number < ANSWERS; number++)
-            if ((can_answer[function] >> number & 1) && !answers[function][number]) {
-                printf(" NEVER %u", number);
-                good = false;
-            }
+        good = told_numbers(answers[function], all ? can_answer[function] : 0) && good;
+        if (function == FEED || function == PIECES)
+            good = told_feed(function, all) && good;
+        if (all && takes[function])
+            good = told_nulls(function) && good;
         printf("\n");
         good = good && differing[function] == 0;
     }
     memset(cases, 0, sizeof cases);
     memset(differing, 0, sizeof differing);
     memset(answers, 0, sizeof answers);
+    memset(endings, 0, sizeof endings);
+    memset(nulls, 0, sizeof nulls);
+    memset(posts, 0, sizeof posts);
     return good;
+}
+
+static bool is_version_right(void)
+{
+    uint32_t version = wear_version();
+    printf("version %" PRIu32 " of the library, %d of wear.h\n", version, WEAR_VERSION);
+    return version == WEAR_VERSION;
 }
 
 int main(int argc, char **argv)
@@ -1243,9 +1596,10 @@ int main(int argc, char **argv)
     uint64_t count = strtoull(argv[2], NULL, 10);
     setvbuf(stdout, NULL, _IOLBF, 0);
     make_arenas();
+    bool good = is_version_right();
     uint64_t lines = run_lines();
     printf("%" PRIu64 " lines, each at both ends; function, answers and how often\n", lines);
-    bool good = told("stored", false);
+    good = told("stored", false) && good;
     if (lines == 0) {
         printf("no lines\n");
         good = false;
@@ -1253,7 +1607,10 @@ int main(int argc, char **argv)
     printf("%" PRIu64 " inputs of seed %" PRIu64 "\n", count, seed);
     for (uint64_t index = 0; index < count; index++) {
         make_case(index);
-        run_case();
+        if (given.function == PIECES)
+            run_pieces();
+        else
+            run_case();
     }
     if (!told("made", true))
         good = false;

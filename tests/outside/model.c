@@ -743,3 +743,92 @@ uint32_t model_post(const uint8_t *page, size_t n, const uint8_t *octets, size_t
     length[0] = page_octets(ledger.rows);
     return ACCEPTED;
 }
+
+/* ---- a feed (01, the program `wear`) ---- */
+
+static void copy_rows(struct ledger *to, const struct ledger *from)
+{
+    to->rows = from->rows;
+    memcpy(to->row, from->row, from->rows * sizeof *from->row);
+}
+
+/* Posts each record of an accepted block. One that is refused leaves the ledger as it was. */
+static void post_records(struct ledger *ledger, const uint8_t *octets, const struct block *block, uint64_t *answers)
+{
+    static struct ledger before;
+    uint64_t cells[WEAR_CELLS];
+    size_t next;
+    for (size_t at = 3; at < block->len; at = next) {
+        read_record(block->category, octets, block->len, at, &next, cells);
+        copy_rows(&before, ledger);
+        enum refusal refusal = post_record(ledger, octets, cells);
+        if (refusal)
+            copy_rows(ledger, &before);
+        answers[refusal]++;
+    }
+}
+
+/* LEN of the block at `at`, where all its octets are at hand. Otherwise 0, and how the run leaves off. A LEN below 4
+ * stops it at once, since no octet that may come can change it. */
+static size_t whole_len(const uint8_t *octets, size_t m, size_t at, bool more, uint64_t *left_off)
+{
+    size_t left = m - at, len = left < 3 ? 0 : (size_t)number_at(octets + at + 1, 2);
+    if (left >= 3 && len >= 4 && len <= left)
+        return len;
+    if (left >= 3 && len < 4)
+        *left_off = WEAR_STOPPED;
+    else if (more)
+        *left_off = WEAR_MORE;
+    else
+        *left_off = left == 0 ? WEAR_ENDED : WEAR_STOPPED;
+    return 0;
+}
+
+/* Fills in all cells but the page's; answers has how often the posts got each number. */
+static void run_feed(struct ledger *ledger, const uint8_t *octets, size_t m, bool more, uint64_t *cells,
+                     uint64_t *answers)
+{
+    size_t at = 0, len;
+    while ((len = whole_len(octets, m, at, more, &cells[WEAR_FEED_LEFT_OFF])) > 0) {
+        struct block block;
+        if (read_block(octets + at, m - at, &block)) {
+            cells[WEAR_FEED_REFUSED]++;
+        } else {
+            cells[WEAR_FEED_ACCEPTED]++;
+            post_records(ledger, octets + at, &block, answers);
+        }
+        at += len;
+    }
+    if (cells[WEAR_FEED_LEFT_OFF] == WEAR_STOPPED)
+        cells[WEAR_FEED_REFUSED]++;
+    cells[WEAR_FEED_USED] = at;
+    cells[WEAR_FEED_POSTED] = answers[ACCEPTED];
+    cells[WEAR_FEED_UNPOSTED] = answers[NO_ROOM] + answers[LIFE_PASSES];
+}
+
+static struct ledger fed;
+
+uint32_t model_feed(const uint8_t *page, size_t n, const uint8_t *octets, size_t m, uint32_t more, uint8_t *out,
+                    size_t p, uint64_t *cells, size_t k)
+{
+    if (k < WEAR_FEED_CELLS)
+        return OUTPUT_SHORT;
+    uint64_t counted[WEAR_FEED_CELLS] = {0}, answers[MODEL_ANSWERS] = {0};
+    memset(cells, 0, sizeof counted);
+    if (load_page(page, n, &fed))
+        return RULES_BROKEN;
+    run_feed(&fed, octets, m, more != 0, counted, answers);
+    counted[WEAR_FEED_PAGE] = page_octets(fed.rows);
+    if (counted[WEAR_FEED_PAGE] > p)
+        return OUTPUT_SHORT;
+    store_page(&fed, out);
+    memcpy(cells, counted, sizeof counted);
+    return ACCEPTED;
+}
+
+void model_posts(const uint8_t *page, size_t n, const uint8_t *octets, size_t m, uint64_t answers[MODEL_ANSWERS])
+{
+    uint64_t cells[WEAR_FEED_CELLS] = {0};
+    if (load_page(page, n, &fed) == ACCEPTED)
+        run_feed(&fed, octets, m, false, cells, answers);
+}

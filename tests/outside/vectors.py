@@ -1,5 +1,5 @@
-"""The stored cases of tests/vectors/base, and document 01's examples, as lines for the program `compare`. Octets are in hex, '-' for
-none, numbers in decimal; the answer comes last.
+"""The stored cases of tests/vectors/base, the feeds of tests/wear/base, and document 01's examples, as lines for the program `compare`.
+Octets are in hex, '-' for none, numbers in decimal; the answer comes last.
 
 read OCTETS            NUMBER OFFSET LEN COUNT
 step OCTETS START      NUMBER OFFSET NEXT and the record's cells
@@ -7,12 +7,15 @@ entry OCTETS START K   NUMBER OFFSET and the entry's three values
 write CELLS SOURCE ROOM   NUMBER OUT
 rewrite OCTETS ROOM       NUMBER OUT
 post PAGE OCTETS K ROOM   NUMBER OUT
+feed PAGE OCTETS MORE ROOM   NUMBER OUT and the seven cells
 """
 import json
 import os
 import sys
 
-BASE = os.path.join(os.path.dirname(os.path.abspath(__file__)), '..', 'vectors', 'base')
+TESTS = os.path.join(os.path.dirname(os.path.abspath(__file__)), '..')
+BASE = os.path.join(TESTS, 'vectors', 'base')
+FEEDS = [os.path.join(TESTS, 'wear', 'base', name) for name in ('feed1', 'feed2', 'feed3')]
 CASES = {'read': 400, 'step': 400, 'entry': 400, 'rewrite': 400, 'write': 400, 'post': 120, 'load': 120, 'store': 120}
 ENOUGH = 65540
 
@@ -53,6 +56,9 @@ POSTED = [
     ('8000000005', '00010008000C00180102120400000000000000B90000001E'),
 ]
 
+# How a run over a feed leaves off, as wear.h numbers it.
+ENDED, STOPPED, MORE = range(3)
+
 
 def line(*words):
     return ' '.join(str(word) or '-' for word in words)
@@ -85,9 +91,13 @@ def page_of(ledger):
     if count > 256 or any(any(place) for place in places[count:]):
         return None
     places = (places + [[0] * 6] * count)[:count]
-    head = '%04X%04X%04X%04X' % (count, 8, 8 + 4 * count, 8 + 16 * count)
-    keys = ['%02X%02X%02X%02X' % tuple(place[:4]) for place in places]
-    return head + ''.join(keys + ['%016X%08X' % tuple(place[4:]) for place in places])
+    return page_of_rows([('%02X%02X%02X%02X' % tuple(place[:4]), *place[4:]) for place in places])
+
+
+def page_of_rows(rows):
+    """The page of rows, each with its key in hex, life count and reading."""
+    head = '%04X%04X%04X%04X' % (len(rows), 8, 8 + 4 * len(rows), 8 + 16 * len(rows))
+    return head + ''.join([key for key, _, _ in rows] + ['%016X%08X' % (life, reading) for _, life, reading in rows])
 
 
 def idle_report(page):
@@ -133,6 +143,44 @@ def line_of(case):
     return page and kept(page, room_of(case), number, case['out'])
 
 
+def left_off(octets, more):
+    """Octets used, and how the run left off: from LEN to LEN, since a refused block is skipped by LEN as an accepted one is passed."""
+    at = 0
+    while len(octets) - at >= 3:
+        length = octets[at + 1] << 8 | octets[at + 2]
+        if length < 4:
+            return at, STOPPED
+        if length > len(octets) - at:
+            break
+        at += length
+    if more:
+        return at, MORE
+    return at, ENDED if at == len(octets) else STOPPED
+
+
+def feed_lines(octets, page, accepted, refused, posted, unposted):
+    """A feed from a fresh page, as `wear` runs over it: the input ends with it, or more may come, and then a block that is not whole is
+    no refused one yet; and in a page's room, and one octet less."""
+    room, of_end = len(page) // 2, left_off(octets, 0)[1] == STOPPED
+    for more in (0, 1):
+        used, how = left_off(octets, more)
+        cells = [room, used, how, accepted, refused - of_end + (how == STOPPED), posted, unposted]
+        yield line('feed', FRESH, octets.hex(), more, ENOUGH, 0, page, *cells)
+        yield line('feed', FRESH, octets.hex(), more, room, 0, page, *cells)
+        yield line('feed', FRESH, octets.hex(), more, room - 1, 12, '', *[0] * 7)
+
+
+def stored_feeds():
+    """Each stored feed, with the rows and counts of the sheet that `wear` prints for it."""
+    for path in FEEDS:
+        with open(path, 'rb') as f:
+            octets = f.read()
+        with open(path + '.wear') as f:
+            _, *rows, counts = [text.split() for text in f]
+        page = page_of_rows([(key, int(life), int(reading)) for key, life, reading in rows])
+        yield from feed_lines(octets, page, *map(int, counts[1::2]))
+
+
 def examples():
     for octets, number, count in EXAMPLES:
         length = int(octets[2:6], 16) if number == 0 else 0
@@ -141,10 +189,12 @@ def examples():
     for entry, after in POSTED:
         yield line('post', page, P8 + entry, 0, ENOUGH, 0, after)
         page = after
+    yield from feed_lines(bytes.fromhex(''.join(P8 + entry for entry, _ in POSTED)), page, 4, 0, 4, 0)
 
 
 def main():
-    print('\n'.join(examples()))
+    of_examples, of_feeds = list(examples()), list(stored_feeds())
+    print('\n'.join(of_examples + of_feeds))
     why = {'write': 'an extension of item 110, for which a record has no cell', 'post': 'a ledger that no page can say',
            'store': 'a ledger that no page can say'}
     for op, count in CASES.items():
@@ -157,7 +207,8 @@ def main():
         print('\n'.join(text for text in lines if text))
         note = ', %d left out: %s' % (left_out, why[op]) if left_out else ''
         print('stored %s: %d of %d%s' % (op, count - left_out, count, note), file=sys.stderr)
-    print('examples of document 01: %d' % (len(EXAMPLES) + len(POSTED)), file=sys.stderr)
+    print('stored feeds: %d lines' % len(of_feeds), file=sys.stderr)
+    print('examples of document 01: %d' % len(of_examples), file=sys.stderr)
 
 
 main()
