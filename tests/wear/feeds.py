@@ -38,17 +38,22 @@ def pieces(size, path):
         sys.stdout.buffer.flush()
 
 
-if sys.argv[1] == 'pieces':
-    pieces(int(sys.argv[2]), sys.argv[3])
-elif sys.argv[1] == 'large':
-    one = large()
-    for _ in range(ROUNDS):
-        sys.stdout.buffer.write(one)
-elif sys.argv[1] == 'judge':
-    with open(sys.argv[2]) as f:
-        wrote = f.read()
-    if wrote != expected():
-        sys.exit('the large feed: printed otherwise than expected')
-    print('a feed of %d octets: as expected' % (ROUNDS * len(large())))
-else:
-    sys.exit(__doc__)
+def main():
+    if sys.argv[1] == 'pieces':
+        pieces(int(sys.argv[2]), sys.argv[3])
+    elif sys.argv[1] == 'large':
+        one = large()
+        for _ in range(ROUNDS):
+            sys.stdout.buffer.write(one)
+    elif sys.argv[1] == 'judge':
+        with open(sys.argv[2]) as f:
+            wrote = f.read()
+        if wrote != expected():
+            sys.exit('the large feed: printed otherwise than expected')
+        print('a feed of %d octets: as expected' % (ROUNDS * len(large())))
+    else:
+        sys.exit(__doc__)
+
+
+if __name__ == '__main__':
+    main()
