@@ -7,7 +7,7 @@ use crate::cell;
 use feed::run::Done;
 use feed::run::Ending;
 use feed::run::run;
-use feed::totals::Totals;
+use feed::totals::ZEROS;
 use ledger::Ledger;
 use ledger::page::load;
 use ledger::page::store;
@@ -20,14 +20,6 @@ pub const ENDED: u64 = 0;
 pub const STOPPED: u64 = 1;
 
 pub const MORE: u64 = 2;
-
-// What has been counted before a call.
-const ZEROS: Totals = Totals {
-    accepted: 0,
-    refused: 0,
-    posted: 0,
-    unposted: 0,
-};
 
 // What became of a feed: the octets of the page that was stored, and what the run answered; or a refusal.
 pub enum Fed {

@@ -11,6 +11,14 @@ pub struct Totals {
     pub unposted: u64,
 }
 
+// What has been counted before a run.
+pub const ZEROS: Totals = Totals {
+    accepted: 0,
+    refused: 0,
+    posted: 0,
+    unposted: 0,
+};
+
 // One more, up to 2^64 - 1.
 fn one_more(n: u64) -> u64
     ensures { λ r. ⌜ r ≡ up n 1 ⌝ }

@@ -5,16 +5,10 @@ use crate::ledgers::say_rows;
 use feed::run::Ending;
 use feed::run::run;
 use feed::totals::Totals;
+use feed::totals::ZEROS;
 use ledger::cells::CELLS;
 use text::more;
 use text::number;
-
-const NOTHING: Totals = Totals {
-    accepted: 0,
-    refused: 0,
-    posted: 0,
-    unposted: 0,
-};
 
 // How many of so many octets have come, with one piece more; a piece of 0 is all of them.
 fn with_piece(to: usize, piece: usize, size: usize) -> usize
@@ -34,7 +28,7 @@ fn with_piece(to: usize, piece: usize, size: usize) -> usize
 fn run_pieces(cells: &mut [u64; CELLS], s: &[u8], piece: usize) -> Totals
     requires { ⌜ Kept (now cells) ⌝ }
 {
-    let mut totals = NOTHING;
+    let mut totals = ZEROS;
     let mut from: usize = 0;
     let mut to: usize = 0;
     while to < s.len() {

@@ -39,7 +39,7 @@ pub stays : (s : List ℕ) (from to : ℕ) → from ≡ 0 → take (to - from) s
 stays s from to e = let z : to - 0 ≡ to = omega arith in rw e (ap (λ n. take n s) z)
 
 -- what stands between two offsets
-between : (s : List ℕ) (from to : ℕ) → from ≤ to → to ≤ length s → take (to - from) (drop from s) ≡ drop from (take to s)
+pub between : (s : List ℕ) (from to : ℕ) → from ≤ to → to ≤ length s → take (to - from) (drop from s) ≡ drop from (take to s)
 between s from to l h =
     let sum : from + (to - from) ≡ to = omega arith in
     let front = length-take-le from s (omega arith) in

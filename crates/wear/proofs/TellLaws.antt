@@ -22,7 +22,9 @@ use Rattle.text.specs.Quotes.{quoted}
 use Rattle.text.specs.Sentences.{sentence}
 use Rattle.text.proofs.DecimalLaws.{decimal-short}
 use Rattle.text.proofs.SentenceLaws.{sentence-short}
-use Rattle.wear.specs.Tells.{refusedWords, faultWords, skippedLine, stoppedWords, unreadFirst, unreadWords, longestLine}
+use Rattle.wear.specs.Tells.{refusedWords, faultWords, skippedLine, stoppedWords, unreadFirst, unreadWords, longestLine, StopTold}
+use Rattle.wear.specs.Turns.{waiting, Left}
+use Rattle.wear.specs.declared.input.Turn.{Turn}
 
 -- a reading in its cases
 pub listed-of : (r a : Reading) (b : ReadListed) → r ≡ a → listedReading r ≡ b → (listedReading a .refusal ≡ b .refusal) × (listedReading a .offset ≡ b .offset)
@@ -135,3 +137,12 @@ passes s over x e =
 module _ (s : List ℕ) (over : Bool) (r x : Next) (is : r ≡ x) (said : (r ≡ nextOf s over) × (listedNext r ≡ nextListed s over)) where
   pub goes-on : Passes s x × (listedNext x .octets ≡ nextListed s over .octets)
   goes-on = (passes s over x (sym is ∙ said .0), ap (λ n. n .octets) (ap listedNext (sym is) ∙ said .1))
+
+-- where the run of a feed stopped, and what stands there
+pub stop-told : (feed buffer : List ℕ) (last : Turn) → Left feed buffer last → (s words : List ℕ) → s ≡ waiting last buffer
+    → words ≡ stoppedWords (last .used) s → StopTold last words
+stop-told feed buffer last w s words is e = record {
+  feed = feed;
+  all = w .all;
+  is = e ∙ (λ i. stoppedWords (w .used i) ((is ∙ w .waits) i));
+}

@@ -133,10 +133,11 @@ module _ (s buffer l : List ℕ) (now : Turn) where
   -- by a run that knows of the input's end
   done-worn : Done s true buffer l now → (now .reads .input ≡ Going.Over) ⊎ (runOver s false fresh .ending ≡ Ending.Stopped)
       → Worn s l now × Left s buffer now
-  done-worn d whole = (
-    record { all = record { octets = d .octets; many = d .all; whole = whole }; rows = d .rows; totals = d .totals; going = d .going },
-    record { used = d .used; order = d .order; within = d .within; waits = d .waits },
-  )
+  done-worn d whole =
+      let all : AllCame s now = record { octets = d .octets; many = d .all; whole = whole } in (
+        record { all = all; rows = d .rows; totals = d .totals; going = d .going },
+        record { all = all; used = d .used; order = d .order; within = d .within; waits = d .waits },
+      )
 
   done-off : (over : Bool) → Done s over buffer l now → (over ≡ true → now .reads .input ≡ Going.Over) → (now .going ≡ Going.On → ⊥)
       → Worn s l now × Left s buffer now

@@ -1,16 +1,20 @@
 -- What is told on standard error: refused blocks that were skipped, and where a run stopped.
-use mathlib.Core.Bool.{Bool}
-use mathlib.Core.List.{List, _++_}
+use mathlib.Core.Bool.{Bool, true}
+use mathlib.Core.List.{List, [], _++_}
+use mathlib.Core.Path.{_≡_}
 use Prim.Native.Nat.{ℕ}
 use lib.Dec.{eqb}
-use lib.ListN.{getD}
+use lib.ListN.{getD, drop}
 use Rattle.octets.specs.Choice.{pick}
 use Rattle.blocks.specs.Walks.{ReadListed, readListed}
 use Rattle.feed.specs.Blocks.{lenOf}
+use Rattle.feed.specs.Runs.{state, runOver, zeros}
 use Rattle.feed.specs.Totals.{up}
 use Rattle.text.specs.Digits.{decimal}
 use Rattle.text.specs.Quotes.{quoted}
 use Rattle.text.specs.Sentences.{sentence}
+use Rattle.wear.specs.Turns.{AllCame}
+use Rattle.wear.specs.declared.input.Turn.{Turn}
 
 -- a refusal: its number, and what it says
 abbrev pub refusedWords : ℕ → List ℕ
@@ -29,11 +33,17 @@ skippedLine offset s =
     ++ quoted ": " ++ refusedWords (readListed s .refusal)
     ++ faultWords offset (readListed s .offset)
 
--- A run that stopped: where, and why, by what stands there; and, once the input has ended, how many octets were not read. Where a read failed
--- before that end, there may be more.
+-- A run that stopped: where, and why, by what stands there
 unfoldable pub stoppedWords : ℕ → List ℕ → List ℕ
 stoppedWords offset s = quoted "wear: stopped at octet " ++ decimal offset ++ quoted ": " ++ refusedWords (readListed s .refusal)
 
+-- of a feed of which all has come: at the octets from there on
+pub record StopTold (turn : Turn) (words : List ℕ) : Type 0 where
+  pub feed : List ℕ
+  pub all : AllCame feed turn
+  pub is : words ≡ stoppedWords (up 0 (runOver feed true (state [] zeros) .at)) (drop (runOver feed true (state [] zeros) .at) feed)
+
+-- and, once the input has ended, how many octets were not read; where a read failed before that end, there may be more
 abbrev pub unreadFirst : Bool → List ℕ
 unreadFirst failed = pick failed (quoted "; at least ") (quoted "; ")
 

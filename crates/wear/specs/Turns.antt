@@ -1,5 +1,5 @@
 -- What the reads give, what a turn of the program does, and what it has done when the input is over (01 "Worked examples", the program `wear`).
-use mathlib.Core.Bool.{true, false}
+use mathlib.Core.Bool.{Bool, true, false}
 use mathlib.Core.List.{List, []}
 use mathlib.Core.Logic.{_⊎_}
 use mathlib.Core.Path.{_≡_}
@@ -17,6 +17,7 @@ use Rattle.feed.specs.declared.run.Ending.{Ending}
 use Rattle.feed.specs.declared.run.Ending.the-variants as ending
 use Rattle.wear.specs.declared.input.Turn.{Turn}
 use Rattle.wear.specs.declared.reads.Going.{Going}
+use Rattle.wear.specs.declared.reads.Going.the-variants as going
 use Rattle.wear.specs.declared.reads.Input.{Input}
 use Rattle.wear.specs.declared.reads.Reads.{Reads}
 
@@ -29,6 +30,16 @@ heard before n = record { octets = up (before .octets) n; input = pick (eqb n 0)
 
 abbrev pub unheard : Reads → Reads
 unheard before = record { octets = before .octets; input = Going.Failed }
+
+-- whether one did
+abbrev pub isFailed : Going → Bool
+isFailed going.On = false
+isFailed going.Over = false
+isFailed going.Stopped = false
+isFailed going.Failed = true
+
+abbrev pub hasFailed : Reads → Bool
+hasFailed reads = isFailed (reads .input)
 
 -- by what the system answers: a number of octets, or one below 0
 abbrev pub inputOf : Reads → ℤ → Input
@@ -103,6 +114,7 @@ pub record Worn (feed l : List ℕ) (turn : Turn) : Type 0 where
 
 -- how many octets it used, and what waits in the buffer of the others: those from there on
 pub record Left (feed buffer : List ℕ) (turn : Turn) : Type 0 where
+  pub all : AllCame feed turn
   pub used : turn .used ≡ up 0 (runOver feed true (state [] zeros) .at)
   pub order : turn .from ≤ turn .to
   pub within : turn .to ≤ length buffer

@@ -15,7 +15,7 @@ mod tells;
 use crate::input::Turn;
 use crate::input::take_turn;
 use crate::reads::Going;
-use feed::totals::Totals;
+use feed::totals::ZEROS;
 use ledger::cells::CELLS;
 
 // Turns until the run is over or a read fails. A proved loop has to end, and nothing says that the input does: it counts its turns down, from a
@@ -28,12 +28,7 @@ fn turns(buffer: &mut [u8], cells: &mut [u64; CELLS], tells: bool) -> Turn
         from: 0,
         to: 0,
         used: 0,
-        totals: Totals {
-            accepted: 0,
-            refused: 0,
-            posted: 0,
-            unposted: 0,
-        },
+        totals: ZEROS,
         going: Going::On,
         reads: reads::none(),
     };
@@ -54,13 +49,10 @@ fn turns(buffer: &mut [u8], cells: &mut [u64; CELLS], tells: bool) -> Turn
 fn tell_stop(buffer: &mut [u8], last: Turn)
     requires { ⌜ ((feed : List ℕ) × Left feed (now buffer) last) ⌝ }
 {
-    let from = last.from;
-    let to = last.to;
-    let used = last.used;
-    tells::say_stopped(used, &buffer[from..to]);
+    tells::say_stopped(buffer, last);
     let so_far = last.reads;
     let all = reads::read_on(buffer, so_far);
-    tells::say_unread(reads::behind(all, used), reads::has_failed(all));
+    tells::say_unread(all, last);
 }
 
 fn print(cells: &[u64; CELLS], last: Turn)

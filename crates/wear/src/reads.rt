@@ -4,7 +4,7 @@ ghost use Prim.Native.Nat.{_-_, _≤_};
 ghost use lib.ListN.{length, take};
 ghost use Rattle.libc.specs.Io.{Moved};
 ghost use Rattle.feed.specs.Totals.{up};
-ghost use Rattle.wear.specs.Turns.{unread, heard, inputOf, Heard};
+ghost use Rattle.wear.specs.Turns.{unread, heard, hasFailed, inputOf, Heard};
 
 // Whether it goes on, is over, or a read failed: of the input, and of the run over it, which may also stop.
 pub enum Going {
@@ -138,10 +138,14 @@ pub(crate) fn behind(reads: Reads, used: u64) -> u64
 }
 
 // Whether a read failed.
-pub(crate) fn has_failed(reads: Reads) -> bool {
+pub(crate) fn has_failed(reads: Reads) -> bool
+    ensures { λ r. ⌜ r ≡ hasFailed reads ⌝ }
+{
     let going = reads.input;
     match going {
+        Going::On => false,
+        Going::Over => false,
+        Going::Stopped => false,
         Going::Failed => true,
-        Going::On | Going::Over | Going::Stopped => false,
     }
 }

@@ -1,12 +1,18 @@
 // What is told on standard error: refused blocks that a run skips, and where it stopped.
+ghost use mathlib.Core.List.{List};
 ghost use mathlib.Core.Path.{_≡_};
-ghost use Prim.Native.Nat.{_≤_};
+ghost use Prim.Native.Nat.{ℕ, _-_, _≤_};
 ghost use lib.ListN.{length, take};
 ghost use Rattle.io.specs.Counts.{Counts};
 ghost use Rattle.blocks.specs.Walks.{readListed};
 ghost use Rattle.feed.specs.Blocks.{nextListed};
 ghost use Rattle.text.specs.Gathered.{gathered, putAll};
-ghost use Rattle.wear.specs.Tells.{longestLine, refusedWords, faultWords, skippedLine, stoppedWords, unreadFirst, unreadWords};
+ghost use Rattle.wear.specs.Tells.{longestLine, refusedWords, faultWords, skippedLine, unreadFirst, unreadWords, StopTold};
+ghost use Rattle.wear.specs.Turns.{hasFailed, Left};
+use crate::input::Turn;
+use crate::reads::Reads;
+use crate::reads::behind;
+use crate::reads::has_failed;
 use crate::reads::more;
 use blocks::walk::Reading;
 use blocks::walk::read;
@@ -81,13 +87,15 @@ fn skipped_line(text: &mut [u8], offset: u64, s: &[u8]) -> usize
     fault_words(text, e, offset, fault.offset)
 }
 
-// Where a run stopped, and why, by what stands there.
-fn stopped_words(text: &mut [u8], offset: u64, s: &[u8]) -> usize
-    requires { ⌜ longestLine ≤ length (now text) ⌝ }
-    ensures { λ r. ⌜ (take r (now (text .exit)) ≡ stoppedWords offset (now (s .entry))) × Counts r (now (text .exit)) ⌝ }
+// Where a run stopped, and why, by what waits there.
+fn stopped_words(text: &mut [u8], buffer: &[u8], last: Turn) -> usize
+    requires { ⌜ ((feed : List ℕ) × Left feed (now buffer) last) × (longestLine ≤ length (now text)) ⌝ }
+    ensures { λ r. ⌜ StopTold last (take r (now (text .exit))) × Counts r (now (text .exit)) ⌝ }
 {
-    let fault = fault_of(s);
-    let a = word_number(text, 0, b"wear: stopped at octet ", offset);
+    let from = last.from;
+    let to = last.to;
+    let fault = fault_of(&buffer[from..to]);
+    let a = word_number(text, 0, b"wear: stopped at octet ", last.used);
     let b = emit_all(text, a, b": ");
     refused_words(text, b, fault.refusal)
 }
@@ -102,12 +110,13 @@ fn unread_first(text: &mut [u8], has_failed: bool) -> usize
     emit_all(text, 0, b"; ")
 }
 
-// How many octets were not read.
-fn unread_words(text: &mut [u8], n: u64, has_failed: bool) -> usize
+// How many octets were not read: those that the reads have given in all, but for those that the run used.
+fn unread_words(text: &mut [u8], all: Reads, last: Turn) -> usize
     requires { ⌜ longestLine ≤ length (now text) ⌝ }
-    ensures { λ r. ⌜ (take r (now (text .exit)) ≡ unreadWords n «has_failed») × Counts r (now (text .exit)) ⌝ }
+    ensures { λ r. ⌜ (take r (now (text .exit)) ≡ unreadWords (all .octets - last .used) (hasFailed all)) × Counts r (now (text .exit)) ⌝ }
 {
-    let a = unread_first(text, has_failed);
+    let n = behind(all, last.used);
+    let a = unread_first(text, has_failed(all));
     let b = number(text, a, n);
     emit_all(text, b, b" octets from there on were not read\n")
 }
@@ -120,15 +129,17 @@ fn say_skipped(offset: u64, s: &[u8])
     io::write_all(2, &space[..n]);
 }
 
-pub(crate) fn say_stopped(offset: u64, s: &[u8]) {
+pub(crate) fn say_stopped(buffer: &[u8], last: Turn)
+    requires { ⌜ ((feed : List ℕ) × Left feed (now buffer) last) ⌝ }
+{
     let mut space = [0u8; LINE];
-    let n = stopped_words(&mut space, offset, s);
+    let n = stopped_words(&mut space, buffer, last);
     io::write_all(2, &space[..n]);
 }
 
-pub(crate) fn say_unread(octets: u64, has_failed: bool) {
+pub(crate) fn say_unread(all: Reads, last: Turn) {
     let mut space = [0u8; LINE];
-    let n = unread_words(&mut space, octets, has_failed);
+    let n = unread_words(&mut space, all, last);
     io::write_all(2, &space[..n]);
 }
 

@@ -1,0 +1,63 @@
+"""changes.py: small changes to `wear` that its proofs let pass, since no contract can say what a call of C reads or writes (changes/*.edit, in the
+form of must-fail edits). Each is made in a copy, proved and built there, and the stored runs have to tell it from `wear`: the crate's own
+run, or a case of told.py. A change that the proofs refuse belongs in crates/wear/must-fail, and is a fault here."""
+import concurrent.futures
+import glob
+import os
+import shutil
+import subprocess
+import sys
+import tempfile
+
+HERE = os.path.dirname(os.path.abspath(__file__))
+ROOT = os.path.dirname(os.path.dirname(HERE))
+
+
+def edited(path, text):
+    """The file that an edit names, with each of its lines `old` replaced, which stands there once."""
+    lines = text.splitlines()
+    file = os.path.join(path, 'crates', 'wear', next(line[6:] for line in lines if line.startswith('file: ')))
+    with open(file, encoding='utf-8') as f:
+        source = f.read()
+    olds, news = ([line[5:] for line in lines if line.startswith(word + ': ')] for word in ('old', 'new'))
+    for old, new in zip(olds, news, strict=True):
+        if source.count(old + '\n') != 1:
+            sys.exit('changes.py: %r does not stand once in %s' % (old, file))
+        source = source.replace(old + '\n', new + '\n')
+    with open(file, 'w', encoding='utf-8') as f:
+        f.write(source)
+
+
+def copy_of_box(path):
+    for name in ('crates', 'target', 'tests/wear'):
+        shutil.copytree(os.path.join(ROOT, name), os.path.join(path, name), ignore=shutil.ignore_patterns('inc', 'must-fail', 'base'))
+    for name in ('crates.txt', 'wear', 'README.md'):
+        shutil.copy(os.path.join(ROOT, name), path)
+
+
+def caught(edit):
+    """Which stored run tells a change from `wear`; None where none does, or where the proofs refuse it."""
+    with tempfile.TemporaryDirectory() as path, open(edit, encoding='utf-8') as f:
+        copy_of_box(path)
+        edited(path, f.read())
+        check = subprocess.run(['rt', 'check', 'wear'], cwd=path, stdin=subprocess.DEVNULL, capture_output=True, text=True)
+        if 'rt: wear proved (' not in check.stdout + check.stderr:
+            return None, 'refused by the proofs, or not built:\n' + (check.stdout + check.stderr)[-2000:]
+        if check.returncode != 0:
+            return True, 'by the run of crates/wear'
+        told = subprocess.run([sys.executable, 'tests/wear/told.py', 'wear'], cwd=path, stdin=subprocess.DEVNULL, capture_output=True, text=True)
+        return told.returncode != 0, 'by told.py: ' + told.stdout.split('\n', 1)[0] if told.returncode else 'by no stored run'
+
+
+def main():
+    edits = sorted(glob.glob(os.path.join(HERE, 'changes', '*.edit')))
+    missed = 0 if edits else 1
+    with concurrent.futures.ThreadPoolExecutor(max_workers=2) as pool:
+        for edit, (is_caught, how) in zip(edits, pool.map(caught, edits)):
+            print('%s: %s, %s' % (os.path.basename(edit)[:-5], 'caught' if is_caught else 'NOT CAUGHT', how))
+            missed += not is_caught
+    print('changes: %d, %d not caught' % (len(edits), missed))
+    return 1 if missed else 0
+
+
+sys.exit(main())
