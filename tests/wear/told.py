@@ -156,9 +156,12 @@ def spoilt_ends():
         os.close(where)
         missing = os.path.join(folder, 'missing')
         holds('a FILE that is not there', Run([missing]), 1, '', 'wear: failed: %s could not be opened\n' % missing)
-    with open('/dev/full', 'wb') as full:
-        holds('/dev/full', Run(octets=report(100), stdout=full), 1, None, FAILED_WRITE)
-        holds('/dev/full and a stop', Run(octets=b'no', stdout=full), 1, None, FAILED_WRITE + stopped(0, 1, 2))
+    if os.path.exists('/dev/full'):
+        with open('/dev/full', 'wb') as full:
+            holds('/dev/full', Run(octets=report(100), stdout=full), 1, None, FAILED_WRITE)
+            holds('/dev/full and a stop', Run(octets=b'no', stdout=full), 1, None, FAILED_WRITE + stopped(0, 1, 2))
+    else:
+        print('LEFT OUT: a full device, as there is no /dev/full')
     reader, writer = os.pipe()
     os.close(reader)
     holds('a reader that went away', Run(octets=report(100), stdout=writer), 1, None, FAILED_WRITE)
@@ -230,8 +233,11 @@ def first_runs():
         os.symlink(os.path.join(box, 'wear'), link)
         program = os.path.join(os.path.dirname(WEAR), 'target', 'bin', 'wear')
         env = dict(os.environ, PATH=bin + os.pathsep + os.environ['PATH'], PROGRAM=program)
-        holds('a first run on a terminal, through a link', on_terminal(link, env), 0, EMPTY, begun + told)
-        holds('a run on a terminal after a change', on_terminal(link, env), 0, EMPTY, told)
+        if os.path.exists('/dev/ptmx'):
+            holds('a first run on a terminal, through a link', on_terminal(link, env), 0, EMPTY, begun + told)
+            holds('a run on a terminal after a change', on_terminal(link, env), 0, EMPTY, told)
+        else:
+            print('LEFT OUT: a terminal, as there is no /dev/ptmx')
         holds('the same, not on a terminal', Run(wear=link, env=env), 0, EMPTY, '')
         unbuilt = Run(wear=link, env=dict(env, PROGRAM=''))
         holds('a program that is not proved', unbuilt, 1, '')

@@ -4,3 +4,4 @@ pub mod FrontRuns
 pub mod TurnLaws
 pub mod SheetLaws
 pub mod TellLaws
+pub mod Examples

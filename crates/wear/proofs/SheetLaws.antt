@@ -1,7 +1,7 @@
 -- Laws of the sheet: a key spelled, the rows one by one, and how long it is at the most. Assumes nothing.
 use mathlib.Core.List.{List, [], _∷_, _++_, map, flatMap, append-nil, append-assoc}
-use mathlib.Core.Path.{_≡_, refl, sym, ap, _∙_, subst}
-use Prim.Native.Nat.{ℕ, zero, suc, _+_, _*_, _≤_, _<_, _^_}
+use mathlib.Core.Path.{_≡_, refl, sym, ap, _∙_}
+use Prim.Native.Nat.{ℕ, _+_, _*_, _≤_, _<_, _^_}
 use native.Mathlib.Numerals.{add-one}
 use native.Mathlib.Omega.{arith}
 use lib.ListN.{length, replicate, length-append}
@@ -10,16 +10,16 @@ use Rattle.octets.proofs.Numbers.{length-octets}
 use Rattle.rows.specs.Rows.{Row}
 use Rattle.rows.specs.Order.{upto}
 use Rattle.rows.specs.Posting.{Each}
-use Rattle.ledger.specs.Ledgers.{rowIn, countOf, rowsOf, table, asRow}
+use Rattle.ledger.specs.Ledgers.{rowIn, countOf, rowsOf, table}
 use Rattle.ledger.specs.Steps.{Kept, Narrow}
 use Rattle.ledger.proofs.CellLaws.{rows-many, rows-back}
 use Rattle.ledger.proofs.RowPlaces.{each-from, each-at}
 use Rattle.ledger.proofs.TableLaws.{listed-more}
 use Rattle.feed.specs.Runs.{state, wearOf}
 use Rattle.feed.specs.declared.totals.Totals.{Totals}
-use Rattle.text.specs.Digits.{hexPair, decimal}
+use Rattle.text.specs.Digits.{hexPair}
 use Rattle.text.specs.Quotes.{quoted}
-use Rattle.text.specs.Gathered.{Gathered, gathered, putAll}
+use Rattle.text.specs.Gathered.{Gathered, putAll}
 use Rattle.text.proofs.DecimalLaws.{decimal-short}
 use Rattle.text.proofs.GatheredLaws.{put-then}
 use Rattle.wear.specs.Sheets.{headerLine, rowLine, totalsLine, sheetOf, longest, Printed}

@@ -19,7 +19,6 @@ use Rattle.feed.proofs.NextLaws.{Whole, next-cases}
 use Rattle.text.specs.Digits.{decimal}
 use Rattle.text.specs.Gathered.{Gathered, putAll}
 use Rattle.text.specs.Quotes.{quoted}
-use Rattle.text.specs.Sentences.{sentence}
 use Rattle.text.proofs.DecimalLaws.{decimal-short}
 use Rattle.text.proofs.SentenceLaws.{sentence-short}
 use Rattle.wear.specs.Tells.{refusedWords, faultWords, skippedLine, stoppedWords, unreadFirst, unreadWords, longestLine, StopTold}

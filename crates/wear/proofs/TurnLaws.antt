@@ -91,9 +91,6 @@ on-not-over e h = absurd (let z : _≡_ {A = ℕ} 0 1 = cc in omega arith)
 pub on-not-stopped : {g : Going} {A : Type 0} → g ≡ Going.On → g ≡ Going.Stopped → A
 on-not-stopped e h = absurd (let z : _≡_ {A = ℕ} 0 1 = cc in omega arith)
 
-over-not-stopped : {g : Going} {A : Type 0} → g ≡ Going.Over → g ≡ Going.Stopped → A
-over-not-stopped e h = absurd (let z : _≡_ {A = ℕ} 0 1 = cc in omega arith)
-
 pub record NotFailed (g : Going) : Type 0 where
   pub on : g ≡ Going.On → ⊥
   pub over : g ≡ Going.Over → ⊥

@@ -6,7 +6,7 @@ use Prim.Native.Nat.{ℕ}
 use lib.Dec.{eqb}
 use lib.ListN.{getD, drop}
 use Rattle.octets.specs.Choice.{pick}
-use Rattle.blocks.specs.Walks.{ReadListed, readListed}
+use Rattle.blocks.specs.Walks.{readListed}
 use Rattle.feed.specs.Blocks.{lenOf}
 use Rattle.feed.specs.Runs.{state, runOver, zeros}
 use Rattle.feed.specs.Totals.{up}

@@ -1,6 +1,5 @@
 -- `say_refusal`: in each arm the octets of the sentence that the definition has there. Assumes nothing.
-use mathlib.Core.Path.{_≡_, ap, _∙_}
-use mathlib.Core.List.{List}
+use mathlib.Core.Path.{_≡_}
 use Prim.Native.Nat.{ℕ, _+_, _≤_}
 use native.Mathlib.Omega.{arith}
 use lib.ListN.{List·getD-eq-default}

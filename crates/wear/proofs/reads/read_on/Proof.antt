@@ -1,7 +1,6 @@
 -- `read_on`: an account does not shrink; the measure is how many reads may follow. Assumes nothing.
 use Prim.Native.Nat.{_≤_}
 use lib.ListN.{length}
-use native.Mathlib.Omega.{arith}
 use mathlib.Core.Path.{_≡_}
 use borrow.Author.Needs.{needs}
 use Rattle.wear.proofs.reads.read_on.Statement.{statement}

@@ -1,6 +1,6 @@
 -- `row_lines`: the loop's invariant is that the first i rows are put. It looks below the row count, and so below 256, only, where a key has 32 bits.
 -- Assumes nothing.
-use mathlib.Core.Path.{_≡_, ap, _∙_}
+use mathlib.Core.Path.{_≡_, ap}
 use Prim.Native.Nat.{_-_, _≤_}
 use native.Mathlib.Omega.{arith}
 use lib.ListN.{length}

@@ -1,8 +1,5 @@
 -- `fault_of`: what is listed of the reading. Assumes nothing.
-use mathlib.Core.Path.{ap}
 use borrow.Author.Needs.{needs}
-use Rattle.blocks.specs.Walks.{ReadListed, listedReading}
-use Rattle.blocks.specs.declared.walk.Reading.{Reading}
 use Rattle.wear.proofs.TellLaws.{listed-of}
 use Rattle.wear.proofs.tells.fault_of.Statement.{statement}
 use Rattle.wear.proofs.tells.fault_of.Tie as tie

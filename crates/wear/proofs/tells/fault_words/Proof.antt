@@ -1,7 +1,5 @@
 -- `fault_words`: the header, or a record. Assumes nothing.
-use mathlib.Core.Path.{_≡_, ap, _∙_}
 use borrow.Author.Needs.{needs}
-use borrow.Author.Tests.{eq-eqb, ne-eqb}
 use Rattle.text.specs.Quotes.{quoted}
 use Rattle.text.proofs.GatheredLaws.{put-one, put-then}
 use Rattle.wear.proofs.TellLaws.{header-put, record-put}

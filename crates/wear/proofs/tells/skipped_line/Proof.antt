@@ -1,8 +1,8 @@
 -- `skipped_line`: what is put is the block's line, and finds room. Assumes nothing.
-use mathlib.Core.Path.{_≡_, refl, _∙_}
-use Prim.Native.Nat.{_≤_, _<_, _^_}
+use mathlib.Core.Path.{refl, _∙_}
+use Prim.Native.Nat.{_<_, _^_}
 use native.Mathlib.Omega.{arith}
-use lib.ListN.{length, getD}
+use lib.ListN.{getD}
 use borrow.Author.Needs.{needs}
 use Rattle.text.specs.Quotes.{quoted}
 use Rattle.text.proofs.GatheredLaws.{put-then, put-two, put-whole}

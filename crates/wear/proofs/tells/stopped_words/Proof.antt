@@ -1,8 +1,8 @@
 -- `stopped_words`: what is put is said of what waits, and finds room. Assumes nothing.
-use mathlib.Core.Path.{_≡_, _∙_}
-use Prim.Native.Nat.{_≤_, _<_, _^_, _-_}
+use mathlib.Core.Path.{_∙_}
+use Prim.Native.Nat.{_<_, _^_, _-_}
 use native.Mathlib.Omega.{arith}
-use lib.ListN.{length, take, drop}
+use lib.ListN.{take, drop}
 use borrow.Author.Needs.{needs}
 use Rattle.text.specs.Quotes.{quoted}
 use Rattle.text.proofs.GatheredLaws.{put-then, put-whole}

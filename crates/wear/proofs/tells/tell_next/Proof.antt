@@ -1,5 +1,4 @@
 -- `tell_next`: by what comes next; a block that is skipped has a header. Assumes nothing.
-use mathlib.Core.Path.{sym}
 use native.Mathlib.Omega.{arith}
 use borrow.Author.Needs.{needs}
 use Rattle.wear.proofs.TellLaws.{goes-on}

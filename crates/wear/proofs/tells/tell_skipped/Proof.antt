@@ -1,6 +1,5 @@
 -- `tell_skipped`: the offset is within the octets at hand, and the measure is how many follow it. Assumes nothing.
 use mathlib.Core.List.{[]}
-use mathlib.Core.Path.{_≡_}
 use Prim.Native.Nat.{_+_, _-_, _≤_}
 use native.Mathlib.Omega.{arith}
 use lib.ListN.{length}
