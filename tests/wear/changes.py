@@ -1,6 +1,6 @@
-"""changes.py: small changes to `wear` that its proofs let pass, since no contract can say what a call of C reads or writes (changes/*.edit, in the
-form of must-fail edits). Each is made in a copy, proved and built there, and the stored runs have to tell it from `wear`: the crate's own
-run, or a case of told.py. A change that the proofs refuse belongs in crates/wear/must-fail, and is a fault here."""
+"""changes.py: small changes to `wear` that its proofs let pass, since no contract can say what a call of C reads or writes (changes/*.edit, like
+must-fail edits, but for several files and lines). Each is made in a copy, proved and built there, and the stored runs have to tell it from
+`wear`: the crate's own run, or a case of told.py. A change that the proofs refuse belongs in crates/wear/must-fail, and is a fault here."""
 import concurrent.futures
 import glob
 import os
@@ -14,18 +14,26 @@ ROOT = os.path.dirname(os.path.dirname(HERE))
 
 
 def edited(path, text):
-    """The file that an edit names, with each of its lines `old` replaced, which stands there once."""
-    lines = text.splitlines()
-    file = os.path.join(path, 'crates', 'wear', next(line[6:] for line in lines if line.startswith('file: ')))
-    with open(file, encoding='utf-8') as f:
-        source = f.read()
-    olds, news = ([line[5:] for line in lines if line.startswith(word + ': ')] for word in ('old', 'new'))
-    for old, new in zip(olds, news, strict=True):
-        if source.count(old + '\n') != 1:
-            sys.exit('changes.py: %r does not stand once in %s' % (old, file))
-        source = source.replace(old + '\n', new + '\n')
-    with open(file, 'w', encoding='utf-8') as f:
-        f.write(source)
+    """Makes an edit: in the files that it names each line `old`, which stands there once, becomes the lines `new` behind it."""
+    file = None
+    for line in text.splitlines():
+        word, _, rest = line.partition(': ')
+        if word == 'file':
+            file = os.path.join(path, 'crates', 'wear', rest)
+        elif word == 'old':
+            with open(file, encoding='utf-8') as f:
+                lines = f.read().splitlines()
+            if lines.count(rest) != 1:
+                sys.exit('changes.py: %r does not stand once in %s' % (rest, file))
+            at = lines.index(rest)
+            del lines[at]
+        elif word == 'new':
+            lines.insert(at, rest)
+            at += 1
+            with open(file, 'w', encoding='utf-8') as f:
+                f.write('\n'.join(lines) + '\n')
+        elif not line.startswith('#'):
+            sys.exit('changes.py: no edit: %r' % line)
 
 
 def copy_of_box(path):
