@@ -44,6 +44,9 @@ within-short (suc m) n (suc (suc j)) l h =
     test (ltb n 10) (λ t. rw t (omega arith))
     (λ f. rw (f, length-append) (omega (arith, within-short m (n / 10) (suc j) (omega arith) (omega arith))))
 
+pub decimal-most : (n k : ℕ) → 1 ≤ k → n < 10 ^ k → length (decimal n) ≤ k
+decimal-most n k l h = within-short (suc n) n k l h
+
 -- one of 64 bits has 20
 pub decimal-short : (n : ℕ) → n < 2 ^ 64 → length (decimal n) ≤ 20
-decimal-short n h = within-short (suc n) n 20 (omega arith) (omega arith)
+decimal-short n h = decimal-most n 20 (omega arith) (omega arith)

@@ -20,7 +20,7 @@ use Rattle.feed.specs.declared.totals.Totals.{Totals}
 use Rattle.text.specs.Digits.{hexPair}
 use Rattle.text.specs.Quotes.{quoted}
 use Rattle.text.specs.Gathered.{Gathered, putAll}
-use Rattle.text.proofs.DecimalLaws.{decimal-short}
+use Rattle.text.proofs.DecimalLaws.{decimal-most, decimal-short}
 use Rattle.text.proofs.GatheredLaws.{put-then}
 use Rattle.wear.specs.Sheets.{headerLine, rowLine, totalsLine, sheetOf, longest, Printed}
 use Rattle.wear.specs.Turns.{Worn}
@@ -69,16 +69,16 @@ unfolding flatMap
 digits-long [] = refl
 digits-long (x ∷ l) = omega (arith, digits-long l)
 
--- life count and reading have 64 bits
+-- a life count has 64 bits, a reading 32
 abbrev pub Wide : Row → Type 0
-Wide r = (r .life < 2 ^ 64) × (r .reading < 2 ^ 64)
+Wide r = (r .life < 2 ^ 64) × (r .reading < 2 ^ 32)
 
-row-short : (r : Row) → Wide r → length (rowLine r) ≤ 51
+row-short : (r : Row) → Wide r → length (rowLine r) ≤ 41
 unfolding quoted
 row-short r w =
-    simp (length-append, digits-long, length-octets) (omega (arith, decimal-short (r .life) (w .0), decimal-short (r .reading) (w .1)))
+    simp (length-append, digits-long, length-octets) (omega (arith, decimal-short (r .life) (w .0), decimal-most (r .reading) 10 (omega arith) (omega arith)))
 
-rows-short : (rows : List Row) → Each Wide rows → length (table rowLine rows) ≤ 51 * length rows
+rows-short : (rows : List Row) → Each Wide rows → length (table rowLine rows) ≤ 41 * length rows
 unfolding table
 rows-short [] w = omega arith
 rows-short (r ∷ rows) w = rw length-append (omega (arith, row-short r (w .0), rows-short rows (w .1)))
@@ -105,7 +105,7 @@ totals-short t w =
 kept-wide : (cells : List ℕ) → Kept cells → Each Wide (rowsOf cells)
 kept-wide cells k =
     each-from Wide (rowsOf cells) (λ i m.
-    (each-at (λ r. r .life < 2 ^ 64) (rowsOf cells) (k .good .lived) i m, omega (arith, each-at Narrow (rowsOf cells) (k .narrow) i m .1)))
+    (each-at (λ r. r .life < 2 ^ 64) (rowsOf cells) (k .good .lived) i m, each-at Narrow (rowsOf cells) (k .narrow) i m .1))
 
 pub sheet-short : (cells : List ℕ) → Kept cells → (t : Totals) → Counted t → length (sheetOf (state (rowsOf cells) t)) ≤ longest
 unfolding sheetOf quoted

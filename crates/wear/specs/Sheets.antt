@@ -27,9 +27,9 @@ totalsLine t =
     ++ quoted " unposted " ++ decimal (t .unposted)
     ++ quoted "\n"
 
--- room for 256 rows: a number has 20 digits at most
+-- room for 256 rows: a life count has 20 digits at most, a reading 10
 abbrev pub longest : ℕ
-longest = 21 + 51 * 256 + 117
+longest = 21 + 41 * 256 + 117
 
 unfoldable pub sheetOf : State → List ℕ
 sheetOf st = headerLine ++ table rowLine (st .rows) ++ totalsLine (st .totals)

@@ -19,8 +19,8 @@ use text::emit_all;
 use text::number;
 use text::word_number;
 
-// Room for the longest sheet: a header of 21 octets, 256 rows of 51 at most, and totals of 117.
-const SHEET: usize = 21 + 51 * 256 + 117;
+// Room for the longest sheet: a header of 21 octets, 256 rows of 41 at most, and totals of 117.
+const SHEET: usize = 21 + 41 * 256 + 117;
 
 // A row: the key in 8 hex digits, life count and reading.
 fn row_line(text: &mut [u8], held: usize, key: u32, life: u64, reading: u64) -> usize
