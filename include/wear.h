@@ -1,6 +1,6 @@
 /* The collector box for C and for what can call C: link with target/staticlib/libdoors.a (made by `rt staticlib doors`).
  *
- * Every function but wear_version answers a refusal number, 0 where it accepts. A slice is a pointer and a length; the pointer may be NULL
+ * Every function of the library but wear_version answers a refusal number, 0 where it accepts. A slice is a pointer and a length; the pointer may be NULL
  * exactly where the length is 0. Nothing outside the slices is read or written, and nothing is kept. Results go into 64-bit cells that the
  * caller lends; where fewer cells are lent than a function needs, of a record too, the answer is 12 before all else, and nothing is
  * changed. Cells past those that are needed stay.

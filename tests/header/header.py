@@ -128,18 +128,12 @@ def values_in_doors():
     return {path: values_in(path, every) for path in paths}
 
 
-def constants_for(name):
-    """The constants that stand for a name: the same without WEAR_. How many cells a record has may have another name, as a feed has cells
-    too."""
-    return ['CELLS', 'RECORD_CELLS'] if name == 'WEAR_CELLS' else [name[len(PREFIX):]]
-
-
 def hold(values, name, sources, where):
     """A name against each file that has a constant for it. One has to."""
-    wanted = constants_for(name)
-    found = [(path, constant, value) for path in sources for constant, value in sources[path].items() if constant in wanted]
+    wanted = name[len(PREFIX):]
+    found = [(path, constant, value) for path in sources for constant, value in sources[path].items() if constant == wanted]
     if not found:
-        differ('%s is in wear.h; %s has no constant %s', name, where, ' or '.join(wanted))
+        differ('%s is in wear.h; %s has no constant %s', name, where, wanted)
     for path, constant, value in found:
         if value is None:
             differ('%s is %d in wear.h; what %s is in %s cannot be told', name, values[name], constant, path)
@@ -151,7 +145,7 @@ def hold_all(values, names, path, constants):
     """Each name against a file's constants, and each constant against the names."""
     for name in names:
         hold(values, name, {path: constants}, path)
-    known = {constant for name in values for constant in constants_for(name)}
+    known = {name[len(PREFIX):] for name in values}
     for constant in sorted(set(constants) - known):
         differ('%s has %s; wear.h has no %s', path, constant, PREFIX + constant)
     print('%d names of wear.h held to %s' % (len(names), path))
@@ -211,11 +205,8 @@ def hold_readme(sentences):
 
 def hold_words(sentences):
     """The sentences that the programs print, each in its arm of a match: its number, or its name in refusal.rt."""
-    if not os.path.exists(os.path.join(ROOT, WORDS)):
-        print('skipped: no sentence held to %s, which is not there' % WORDS)
-        return
     names, numbers = constants_of(read(REFUSALS)), set()
-    for pattern, sentence in ARM.findall(re.sub(r'^\s*//.*', '', read(WORDS), flags=re.M)):
+    for pattern, sentence in ARM.findall(re.sub(r'^\s*//.*', '', read(WORDS) or '', flags=re.M)):
         number = UNUSED[0] if pattern == '_' else value_of(pattern, names)
         if number not in sentences:
             differ('%s: what the arm %s stands for cannot be told', WORDS, pattern)
@@ -227,12 +218,19 @@ def hold_words(sentences):
     print('%d sentences held to %s' % (len(numbers), WORDS))
 
 
-def hold_example(values):
-    """The example in Rust cannot include the header: it has its numbers once more."""
+def hold_example(values, fresh):
+    """The example in Rust cannot include the header: its module `wear` has the header's numbers once more, and no others."""
+    module = re.search(r'^mod wear \{\n(.*?)^\}', read(EXAMPLE), re.M | re.S).group(1)
+    page = re.search(r'const FRESH_PAGE: \[u8; FRESH_OCTETS\] = \[([^\]]*)\];', module)
+    if not page or [int(octet) for octet in page.group(1).split(',')] != fresh:
+        differ('%s has another FRESH_PAGE than wear.h', EXAMPLE)
     constants = values_in(EXAMPLE)
-    names = [PREFIX + constant for constant in constants if PREFIX + constant in values]
+    names = [PREFIX + constant for constant in constants_of(module) if constant != 'FRESH_PAGE']
     for name in names:
-        hold(values, name, {EXAMPLE: constants}, EXAMPLE)
+        if name in values:
+            hold(values, name, {EXAMPLE: constants}, EXAMPLE)
+        else:
+            differ('%s has %s; wear.h has no %s', EXAMPLE, name[len(PREFIX):], name)
     print('%d names of wear.h held to %s' % (len(names), EXAMPLE))
 
 
@@ -244,7 +242,7 @@ def judge(path):
     hold_page(values, fresh)
     hold_readme(sentences)
     hold_words(sentences)
-    hold_example(values)
+    hold_example(values, fresh)
     print('\n'.join(differences + ['%d differences' % len(differences)]))
     return 1 if differences else 0
 

@@ -1,4 +1,5 @@
-"""pieces N FILE: the file's octets, N at a time, each piece written alone. large: a feed of more than 100 MB. judge FILE: what wear printed for it."""
+"""pieces N FILE: the file's octets, N at a time, each piece written alone. status FILE: the exit status that a feed asks for. large: a feed of
+more than 100 MB. judge FILE: what wear printed for it."""
 import sys
 
 COUNTERS = 250
@@ -38,9 +39,24 @@ def pieces(size, path):
         sys.stdout.buffer.flush()
 
 
+def status(path):
+    """1 where fewer than 3 octets are left, or LEN is below 4 or passes the end (document 01); else 0."""
+    with open(path, 'rb') as f:
+        octets = f.read()
+    at = 0
+    while at < len(octets):
+        size = int.from_bytes(octets[at + 1:at + 3], 'big') if at + 3 <= len(octets) else 0
+        if size < 4 or at + size > len(octets):
+            return 1
+        at += size
+    return 0
+
+
 def main():
     if sys.argv[1] == 'pieces':
         pieces(int(sys.argv[2]), sys.argv[3])
+    elif sys.argv[1] == 'status':
+        print(status(sys.argv[2]))
     elif sys.argv[1] == 'large':
         one = large()
         for _ in range(ROUNDS):

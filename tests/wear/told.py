@@ -7,6 +7,8 @@ import shutil
 import subprocess
 import sys
 import tempfile
+import time
+import tty
 
 HERE = os.path.dirname(os.path.abspath(__file__))
 ROOT = os.path.dirname(os.path.dirname(HERE))
@@ -14,6 +16,7 @@ WEAR = os.path.abspath(sys.argv[1]) if len(sys.argv) > 1 else os.path.join(ROOT,
 
 FAILED_READ = 'wear: failed: standard input could not be read to its end; nothing is printed\n'
 FAILED_WRITE = 'wear: failed: standard output could not be written\n'
+PATIENCE = 600          # seconds; nothing here takes so long, but a first build may
 EMPTY = 'counter life reading\naccepted 0 refused 0 posted 0 unposted 0\n'
 
 
@@ -78,7 +81,7 @@ class Run:
         for at in range(0, len(octets), piece) if piece else ():
             process.stdin.write(octets[at:at + piece])
             process.stdin.flush()
-        wrote = process.communicate(None if piece or not process.stdin else octets)
+        wrote = process.communicate(None if piece or not process.stdin else octets, timeout=PATIENCE)
         self.out, self.err = (said if said is None else said.decode() for said in wrote)
         self.status = process.wait()
 
@@ -145,6 +148,56 @@ def told_runs():
     holds('many refused blocks', run, 0, sheet(150 + (many - 1) * 150, 150, 2 * many, many * len(REFUSED), 2 * many))
 
 
+def is_seen(pipe, wanted):
+    """Whether a pipe gives these octets, and waits then."""
+    os.set_blocking(pipe.fileno(), False)
+    seen, until = b'', time.monotonic() + 60
+    while seen != wanted.encode() and time.monotonic() < until:
+        seen += pipe.read() or b''
+        time.sleep(0.01)
+    os.set_blocking(pipe.fileno(), True)
+    return seen == wanted.encode()
+
+
+def live_runs():
+    """A feed that stops and goes on: the sheet and the first half of the sentence are there at once, the count when the input ends."""
+    global CASES
+    sentence, behind = stopped(19, 3, 3 + 6), b'abcdef'
+    half = sentence[:sentence.index(';', sentence.index('refused'))]
+    process = subprocess.Popen([WEAR], stdin=subprocess.PIPE, stdout=subprocess.PIPE, stderr=subprocess.PIPE)
+    process.stdin.write(report(100) + b'\x17\x00\x03')
+    process.stdin.flush()
+    CASES += 1
+    if not (is_seen(process.stdout, sheet(100, 100, 1, 1, 1)) and is_seen(process.stderr, half)):
+        FAULTS.append('a live feed')
+        print('a live feed: the sheet or the first half of the sentence was not seen at once')
+    out, err = process.communicate(behind, timeout=PATIENCE)
+    run = Run.__new__(Run)
+    run.out, run.err, run.status = out.decode(), err.decode(), process.returncode
+    holds('a live feed that stopped, at its end', run, 1, '', sentence[len(half):])
+
+
+def from_terminal(octets):
+    """A run on octets behind which a read fails: a terminal whose other side is gone."""
+    master, slave = pty.openpty()
+    tty.setraw(slave)
+    os.write(slave, octets)
+    os.close(slave)
+    run = Run(stdin=master)
+    os.close(master)
+    return run
+
+
+def failed_reads():
+    """A read that fails behind octets that came: nothing is printed; behind a stop, so many octets at least were not read."""
+    if not os.path.exists('/dev/ptmx'):
+        print('LEFT OUT: a read that fails behind octets, as there is no /dev/ptmx')
+        return
+    holds('a read that fails behind a report', from_terminal(report(100)), 1, '', FAILED_READ)
+    sentence = stopped(19, 3, 5).replace('; 5 octets', '; at least 5 octets')
+    holds('a read that fails behind a stop', from_terminal(report(100) + b'\x17\x00\x03ab'), 1, sheet(100, 100, 1, 1, 1), sentence)
+
+
 def spoilt_ends():
     """Standard input that cannot be read, standard output that cannot be written, closed ends."""
     with tempfile.TemporaryDirectory() as folder:
@@ -169,6 +222,25 @@ def spoilt_ends():
     shell = ['sh', '-c']
     for closed, wanted in (('>&-', 'wear: failed: standard output is closed\n'), ('<&-', 'wear: failed: standard input is closed\n')):
         holds('closed, ' + closed, Run([shell[1], '"$0" %s' % closed, WEAR], wear=shell[0]), 1, '', wanted)
+    for name, told in (('full', '/dev/full'), ('unread', None)):
+        if told and not os.path.exists(told):
+            continue
+        if told:
+            reader, writer = None, os.open(told, os.O_WRONLY)
+        else:
+            reader, writer = os.pipe()
+            os.close(reader)
+        feed, _ = feed_with_refused()
+        printed = sheet(150, 150, 2, len(REFUSED), 2)
+        holds('standard error %s, a good run that tells' % name, Run(['--tell'], feed, stderr=writer), 0, printed)
+        holds('standard error %s, a stop' % name, Run(octets=b'no', stderr=writer), 1, sheet(0, 0, 0, 1, 0))
+        os.close(writer)
+    with tempfile.TemporaryDirectory() as folder:
+        fifo = os.path.join(folder, 'fifo')
+        os.mkfifo(fifo)
+        writer = subprocess.Popen(['sh', '-c', 'printf "$1" >"$0"', fifo, ''.join('\\%03o' % octet for octet in report(100))])
+        holds('a named pipe as FILE', Run([fifo]), 0, sheet(100, 100, 1, 0, 1), '')
+        writer.wait()
     holds('closed standard error', Run(['-c', 'printf no | "$0" 2>&-', WEAR], wear='sh'), 1, sheet(0, 0, 0, 1, 0), '')
 
 
@@ -251,13 +323,13 @@ def first_runs():
             f.write('#!/bin/sh\nkill -9 $$\n')
         os.chmod(loader, 0o755)
         killed = Run(wear=link, env=dict(env, DOC=os.path.join(folder, 'docs', 'START')))
-        killed.err = killed.err.split('\n', 1)[1] if killed.err.startswith('Killed') else killed.err     # some shells say so themselves
+        killed.err = killed.err.splitlines(keepends=True)[-1]           # some shells say before it that they saw it
         holds('a program that the system ended', killed, 1, '', 'wear: failed: the program ended with status 137\n')
 
 
 def main():
     Run()                       # proves and builds, where that has not been done
-    for cases in (good_runs, stopped_runs, told_runs, spoilt_ends, bad_use, first_runs):
+    for cases in (good_runs, stopped_runs, told_runs, live_runs, failed_reads, spoilt_ends, bad_use, first_runs):
         cases()
     print('told: %d cases, %d differences' % (CASES, len(FAULTS)))
     return 1 if FAULTS else 0

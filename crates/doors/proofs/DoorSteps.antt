@@ -49,7 +49,7 @@ module _ (few : Bool) (out cells : List ℕ) (x : Outcome) (values : List ℕ) w
   pub put-few : few ≡ true → Puts outputTooShort out cells
   put-few e = rw e (refl, refl, refl)
 
-  pub put-in : few ≡ false → {r : ℕ} {out' cells' : List ℕ} → r ≡ outcomeListed (within (length out) x) .refusal
+  put-in : few ≡ false → {r : ℕ} {out' cells' : List ℕ} → r ≡ outcomeListed (within (length out) x) .refusal
       → out' ≡ outputOf out (within (length out) x) → cells' ≡ laid cells 0 values → Puts r out' cells'
   put-in e n o c = rw e (n, o, c)
 
@@ -111,11 +111,11 @@ module _ (page s : List ℕ) (over : Bool) (l : List ℕ) {a : Answer} (loaded :
       rw (← loaded, eq-eqb (a .refusal) 0 h, ← ran .0, ← told, ← ran .1, ← says .1) (says .0, refl)
 
 -- what became of a feed, in its cases: the refusal, and what goes into the cells
-abbrev pub fedRefusal : Fed → ℕ
+abbrev fedRefusal : Fed → ℕ
 fedRefusal (fed.Stored size d) = 0
 fedRefusal (fed.Refused n) = n
 
-abbrev pub fedCells : Fed → List ℕ
+abbrev fedCells : Fed → List ℕ
 fedCells (fed.Stored size d) = doneCells size d
 fedCells (fed.Refused n) = replicate feedCellCount 0
 

@@ -15,11 +15,11 @@ use octets::output::Written;
 use octets::refusal;
 
 // How a run left off: WEAR_ENDED, WEAR_STOPPED and WEAR_MORE of include/wear.h.
-pub const ENDED: u64 = 0;
+const ENDED: u64 = 0;
 
-pub const STOPPED: u64 = 1;
+const STOPPED: u64 = 1;
 
-pub const MORE: u64 = 2;
+const MORE: u64 = 2;
 
 // What became of a feed: the octets of the page that was stored, and what the run answered; or a refusal.
 pub enum Fed {

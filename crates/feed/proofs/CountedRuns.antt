@@ -112,12 +112,12 @@ counted-from (suc n) s over rows t f = go (nextOf s over) (λ len. counted-from 
         ap (behind len)
         (on-behind (λ u. runFrom n (drop len s) over (state posted u)) (ih len posted) t (λ u. acceptedOne u ns) (accepts ns) (λ u g. adds-accepted u g ns) f)
 
-pub run-counted : (s : List ℕ) (over : Bool) (rows : List Row) (t : Totals) → Fits t
+run-counted : (s : List ℕ) (over : Bool) (rows : List Row) (t : Totals) → Fits t
     → runOver s over (state rows t) ≡ counting t (runOver s over (state rows zeros))
 run-counted s over rows t f = counted-from (suc (length s)) s over rows t f
 
 -- what a run counts from zero has 64 bits
-pub run-fits : (s : List ℕ) (over : Bool) (rows : List Row) → Fits (runOver s over (state rows zeros) .state .totals)
+run-fits : (s : List ℕ) (over : Bool) (rows : List Row) → Fits (runOver s over (state rows zeros) .state .totals)
 run-fits s over rows =
     subst Fits (sym (ap (λ (r : Run). r .state .totals) (run-counted s over rows zeros zeros-fit))) (added-fits zeros (runOver s over (state rows zeros) .state .totals))
 

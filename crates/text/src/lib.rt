@@ -1,4 +1,4 @@
-// Text that a program writes to standard output, gathered so that one call writes much.
+// Text that a program writes, gathered so that one call writes much; a full buffer goes to standard output.
 ghost use mathlib.Core.Path.{_≡_};
 ghost use mathlib.Core.List.{_++_, flatMap};
 ghost use Rattle.text.specs.Gathered.{gathered, putOne, putAll};

@@ -17,6 +17,7 @@ use Rattle.ledger.proofs.RowPlaces.{each-from, each-at}
 use Rattle.ledger.proofs.TableLaws.{listed-more}
 use Rattle.feed.specs.Runs.{state, wearOf}
 use Rattle.feed.specs.declared.totals.Totals.{Totals}
+use Rattle.feed.proofs.CountedRuns.{Fits}
 use Rattle.text.specs.Digits.{hexPair}
 use Rattle.text.specs.Quotes.{quoted}
 use Rattle.text.specs.Gathered.{Gathered, putAll}
@@ -70,7 +71,7 @@ digits-long [] = refl
 digits-long (x ∷ l) = omega (arith, digits-long l)
 
 -- a life count has 64 bits, a reading 32
-abbrev pub Wide : Row → Type 0
+abbrev Wide : Row → Type 0
 Wide r = (r .life < 2 ^ 64) × (r .reading < 2 ^ 32)
 
 row-short : (r : Row) → Wide r → length (rowLine r) ≤ 41
@@ -83,14 +84,7 @@ unfolding table
 rows-short [] w = omega arith
 rows-short (r ∷ rows) w = rw length-append (omega (arith, row-short r (w .0), rows-short rows (w .1)))
 
--- so have the totals
-pub record Counted (t : Totals) : Type 0 where
-  pub accepted : t .accepted < 2 ^ 64
-  pub refused : t .refused < 2 ^ 64
-  pub posted : t .posted < 2 ^ 64
-  pub unposted : t .unposted < 2 ^ 64
-
-totals-short : (t : Totals) → Counted t → length (totalsLine t) ≤ 117
+totals-short : (t : Totals) → Fits t → length (totalsLine t) ≤ 117
 unfolding quoted
 totals-short t w =
     simp length-append
@@ -107,7 +101,7 @@ kept-wide cells k =
     each-from Wide (rowsOf cells) (λ i m.
     (each-at (λ r. r .life < 2 ^ 64) (rowsOf cells) (k .good .lived) i m, each-at Narrow (rowsOf cells) (k .narrow) i m .1))
 
-pub sheet-short : (cells : List ℕ) → Kept cells → (t : Totals) → Counted t → length (sheetOf (state (rowsOf cells) t)) ≤ longest
+pub sheet-short : (cells : List ℕ) → Kept cells → (t : Totals) → Fits t → length (sheetOf (state (rowsOf cells) t)) ≤ longest
 unfolding sheetOf quoted
 sheet-short cells k t w =
     let lines = table rowLine (rowsOf cells) in

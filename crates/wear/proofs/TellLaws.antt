@@ -4,8 +4,8 @@ use mathlib.Core.List.{List, _++_}
 use mathlib.Core.Path.{_≡_, sym, ap, _∙_, subst}
 use Prim.Native.Nat.{ℕ, _+_, _≤_, _<_, _^_}
 use native.Mathlib.Omega.{arith}
-use borrow.Author.Tests.{eq-eqb, ne-eqb, leb-false}
-use lib.Dec.{eqb, leb}
+use borrow.Author.Tests.{eq-eqb, ne-eqb}
+use lib.Dec.{eqb}
 use lib.ListN.{length, getD, length-append}
 use Rattle.octets.proofs.Cases.{test, choose}
 use Rattle.blocks.specs.Walks.{ReadListed, listedReading, readOf, readListed}
@@ -16,12 +16,13 @@ use Rattle.feed.specs.Totals.{up}
 use Rattle.feed.specs.declared.block.Next.{Next}
 use Rattle.feed.specs.declared.block.Next.the-variants as next
 use Rattle.feed.proofs.NextLaws.{Whole, next-cases}
+use Rattle.feed.proofs.TotalLaws.{up-fits}
 use Rattle.text.specs.Digits.{decimal}
 use Rattle.text.specs.Gathered.{Gathered, putAll}
 use Rattle.text.specs.Quotes.{quoted}
 use Rattle.text.proofs.DecimalLaws.{decimal-short}
 use Rattle.text.proofs.SentenceLaws.{sentence-short}
-use Rattle.wear.specs.Tells.{refusedWords, faultWords, skippedLine, stoppedWords, unreadFirst, unreadWords, longestLine, StopTold}
+use Rattle.wear.specs.Tells.{refusedWords, faultWords, skippedWords, skippedLine, stopWords, stoppedWords, unreadFirst, unreadWords, longestLine, StopTold}
 use Rattle.wear.specs.Turns.{waiting, Left}
 use Rattle.wear.specs.declared.input.Turn.{Turn}
 
@@ -49,9 +50,6 @@ module _ (g g′ : Gathered) (failed : Bool) where
 
 -- No line is long
 
-up-small : (n k : ℕ) → up n k < 2 ^ 64
-up-small n k = choose (λ x. x < 2 ^ 64) (leb (2 ^ 64) (n + k)) (λ t. omega arith) (λ f. omega (arith, leb-false (2 ^ 64) (n + k) f))
-
 refused-short : (n : ℕ) → n < 2 ^ 64 → length (refusedWords n) ≤ 110
 unfolding quoted
 refused-short n h = simp length-append (omega (arith, decimal-short n h, sentence-short n))
@@ -60,52 +58,41 @@ fault-short : (offset at : ℕ) → length (faultWords offset at) ≤ 43
 unfolding quoted
 fault-short offset at =
     test (eqb at 0) (λ t. rw t (omega arith))
-    (λ f. rw f (simp length-append (omega (arith, decimal-short (up offset at) (up-small offset at)))))
+    (λ f. rw f (simp length-append (omega (arith, decimal-short (up offset at) (up-fits offset at)))))
 
 first-short : (failed : Bool) → length (unreadFirst failed) ≤ 11
 unfolding quoted
 first-short true = omega arith
 first-short false = omega arith
 
--- a line of its numbers is that of the block
-module _ (offset : ℕ) (s : List ℕ) (small : offset < 2 ^ 64) (refusal : ℕ) (is-refusal : refusal ≡ readListed s .refusal) (narrow : refusal < 2 ^ 64) where
-  module _ (cat len at : ℕ) (is-cat : cat ≡ getD s 0 0) (is-len : len ≡ lenOf s) (is-at : at ≡ readListed s .offset)
-      (small-cat : cat < 2 ^ 64) (small-len : len < 2 ^ 64) where
-    abbrev pub skippedOf : List ℕ
-    skippedOf =
-        quoted "wear: skipped at octet " ++ decimal offset
-        ++ quoted ": category " ++ decimal cat
-        ++ quoted ", LEN " ++ decimal len
-        ++ quoted ": " ++ refusedWords refusal
-        ++ faultWords offset at
-
-    pub skipped-is : skippedOf ≡ skippedLine offset s
-    unfolding skippedLine
-    skipped-is = rw (is-cat, is-len, is-refusal, is-at)
-
-    pub skipped-short : length skippedOf ≤ longestLine
-    unfolding quoted
-    skipped-short =
-        let a = refusedWords refusal in
-        let b = faultWords offset at in
-        let front = quoted "wear: skipped at octet " ++ decimal offset ++ quoted ": category " ++ decimal cat ++ quoted ", LEN " ++ decimal len ++ quoted ": " in
-        let long : length front ≤ 102 = simp length-append (omega (arith, decimal-short offset small, decimal-short cat small-cat, decimal-short len small-len)) in
-        omega (arith, length-append (front ++ a) b, length-append front a, long, refused-short refusal narrow, fault-short offset at)
-
-  abbrev pub stoppedOf : List ℕ
-  stoppedOf = quoted "wear: stopped at octet " ++ decimal offset ++ quoted ": " ++ refusedWords refusal
-
-  pub stopped-is : stoppedOf ≡ stoppedWords offset s
-  unfolding stoppedWords
-  stopped-is = rw is-refusal
-
-  pub stopped-short : length stoppedOf ≤ longestLine
+-- a line of its numbers, and that of the block
+module _ (offset cat len refusal at : ℕ) (small : offset < 2 ^ 64) (small-cat : cat < 2 ^ 64) (small-len : len < 2 ^ 64) (narrow : refusal < 2 ^ 64) where
+  pub skipped-short : length (skippedWords offset cat len refusal at) ≤ longestLine
   unfolding quoted
-  stopped-short =
-      let a = refusedWords refusal in
-      let front = quoted "wear: stopped at octet " ++ decimal offset ++ quoted ": " in
-      let long : length front ≤ 45 = simp length-append (omega (arith, decimal-short offset small)) in
-      omega (arith, length-append front a, long, refused-short refusal narrow)
+  skipped-short =
+      simp length-append
+      (omega (
+        arith,
+        decimal-short offset small,
+        decimal-short cat small-cat,
+        decimal-short len small-len,
+        simp length-append at (refused-short refusal narrow),
+        fault-short offset at,
+      ))
+
+pub skipped-is : (offset cat len refusal at : ℕ) (s : List ℕ) → cat ≡ getD s 0 0 → len ≡ lenOf s → refusal ≡ readListed s .refusal
+    → at ≡ readListed s .offset → skippedWords offset cat len refusal at ≡ skippedLine offset s
+unfolding skippedLine
+skipped-is offset cat len refusal at s is-cat is-len is-refusal is-at = rw (is-cat, is-len, is-refusal, is-at)
+
+pub stopped-short : (offset refusal : ℕ) → offset < 2 ^ 64 → refusal < 2 ^ 64 → length (stopWords offset refusal) ≤ longestLine
+unfolding quoted
+stopped-short offset refusal small narrow =
+    simp length-append (omega (arith, decimal-short offset small, simp length-append at (refused-short refusal narrow)))
+
+pub stopped-is : (offset refusal : ℕ) (s : List ℕ) → refusal ≡ readListed s .refusal → stopWords offset refusal ≡ stoppedWords offset s
+unfolding stoppedWords
+stopped-is offset refusal s is-refusal = rw is-refusal
 
 pub unread-short : (n : ℕ) (failed : Bool) → n < 2 ^ 64 → length (unreadWords n failed) ≤ longestLine
 unfolding unreadWords quoted

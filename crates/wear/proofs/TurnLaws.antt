@@ -91,12 +91,12 @@ on-not-over e h = absurd (let z : _≡_ {A = ℕ} 0 1 = cc in omega arith)
 pub on-not-stopped : {g : Going} {A : Type 0} → g ≡ Going.On → g ≡ Going.Stopped → A
 on-not-stopped e h = absurd (let z : _≡_ {A = ℕ} 0 1 = cc in omega arith)
 
-pub record NotFailed (g : Going) : Type 0 where
+pub record NoOther (g : Going) : Type 0 where
   pub on : g ≡ Going.On → ⊥
   pub over : g ≡ Going.Over → ⊥
   pub stopped : g ≡ Going.Stopped → ⊥
 
-pub failed-not : {g : Going} → g ≡ Going.Failed → NotFailed g
+pub failed-not : {g : Going} → g ≡ Going.Failed → NoOther g
 failed-not f = record {
   on = λ e. let z : _≡_ {A = ℕ} 0 1 = cc in omega arith;
   over = λ e. let z : _≡_ {A = ℕ} 0 1 = cc in omega arith;

@@ -25,17 +25,21 @@ abbrev pub faultWords : ℕ → ℕ → List ℕ
 faultWords offset at = pick (eqb at 0) (quoted "; its header\n") (quoted "; its record at octet " ++ decimal (up offset at) ++ quoted "\n")
 
 -- A refused block that was skipped: its offset in the feed, category, LEN, the refusal, and where the fault is.
+abbrev pub skippedWords : ℕ → ℕ → ℕ → ℕ → ℕ → List ℕ
+skippedWords offset cat len refusal at =
+    quoted "wear: skipped at octet " ++ decimal offset ++ quoted ": category " ++ decimal cat ++ quoted ", LEN " ++ decimal len ++ quoted ": "
+    ++ refusedWords refusal
+    ++ faultWords offset at
+
 unfoldable pub skippedLine : ℕ → List ℕ → List ℕ
-skippedLine offset s =
-    quoted "wear: skipped at octet " ++ decimal offset
-    ++ quoted ": category " ++ decimal (getD s 0 0)
-    ++ quoted ", LEN " ++ decimal (lenOf s)
-    ++ quoted ": " ++ refusedWords (readListed s .refusal)
-    ++ faultWords offset (readListed s .offset)
+skippedLine offset s = skippedWords offset (getD s 0 0) (lenOf s) (readListed s .refusal) (readListed s .offset)
 
 -- A run that stopped: where, and why, by what stands there
+abbrev pub stopWords : ℕ → ℕ → List ℕ
+stopWords offset refusal = quoted "wear: stopped at octet " ++ decimal offset ++ quoted ": " ++ refusedWords refusal
+
 unfoldable pub stoppedWords : ℕ → List ℕ → List ℕ
-stoppedWords offset s = quoted "wear: stopped at octet " ++ decimal offset ++ quoted ": " ++ refusedWords (readListed s .refusal)
+stoppedWords offset s = stopWords offset (readListed s .refusal)
 
 -- of a feed of which all has come: at the octets from there on
 pub record StopTold (turn : Turn) (words : List ℕ) : Type 0 where

@@ -52,6 +52,16 @@ pub record Heard (room : ℕ) (before : Reads) (input : Input) : Type 0 where
   pub moved : Moved room got
   pub said : input ≡ inputOf before got
 
+-- One read more: an account that goes on has an octet more, up to 2^64 - 1.
+pub record OneMore (before after : Reads) : Type 0 where
+  pub more : before .octets ≤ after .octets
+  pub on : after .input ≡ Going.On → up (before .octets) 1 ≤ after .octets
+
+-- Read after read, until the input is over or one fails; or more octets have come than can be counted.
+pub record ReadOn (before after : Reads) : Type 0 where
+  pub more : before .octets ≤ after .octets
+  pub on : after .input ≡ Going.On → 2 ^ 64 - 1 ≤ after .octets
+
 -- only a run that waits goes on
 abbrev pub goingOf : Ending → Going
 goingOf ending.More = Going.On

@@ -1,5 +1,5 @@
 // Reads a feed on standard input, posts the statistics reports of its blocks to a fresh ledger, and prints the ledger and the totals. With an argument,
-// whatever it is, refused blocks are told. What went wrong is told on standard error, from which ../../wear makes an exit status.
+// whatever it is, refused blocks are told. What went wrong is told on standard error, from which the launcher makes an exit status.
 ghost use mathlib.Core.List.{List, []};
 ghost use mathlib.Core.Path.{_≡_};
 ghost use Prim.Native.Nat.{ℕ};

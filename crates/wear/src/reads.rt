@@ -4,7 +4,7 @@ ghost use Prim.Native.Nat.{_-_, _≤_};
 ghost use lib.ListN.{length, take};
 ghost use Rattle.libc.specs.Io.{Moved};
 ghost use Rattle.feed.specs.Totals.{up};
-ghost use Rattle.wear.specs.Turns.{unread, heard, hasFailed, inputOf, Heard};
+ghost use Rattle.wear.specs.Turns.{unread, heard, hasFailed, inputOf, Heard, OneMore, ReadOn};
 
 // Whether it goes on, is over, or a read failed: of the input, and of the run over it, which may also stop.
 pub enum Going {
@@ -99,7 +99,7 @@ pub(crate) fn read_behind(buffer: &mut [u8], held: usize, before: Reads) -> Inpu
 
 // One read more, only to count what comes.
 fn read_once(buffer: &mut [u8], before: Reads) -> Reads
-    ensures { λ r. ⌜ before .octets ≤ r .octets ⌝ }
+    ensures { λ r. ⌜ OneMore before r ⌝ }
 {
     let input = read_behind(buffer, 0, before);
     match input {
@@ -108,9 +108,9 @@ fn read_once(buffer: &mut [u8], before: Reads) -> Reads
     }
 }
 
-// Reads on to the end of the input, or to a read that fails.
+// Reads on to the end of the input, or to a read that fails, or for as long as can be counted.
 pub(crate) fn read_on(buffer: &mut [u8], before: Reads) -> Reads
-    ensures { λ r. ⌜ before .octets ≤ r .octets ⌝ }
+    ensures { λ r. ⌜ ReadOn before r ⌝ }
 {
     let mut reads = before;
     let mut left = u64::MAX;

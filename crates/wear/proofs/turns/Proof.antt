@@ -1,16 +1,13 @@
 -- `turns`: at the loop's head octets have come, one at least with each turn, and the run over them waits. Assumes nothing.
-use mathlib.Core.List.{List, [], _∷_}
-use mathlib.Core.Logic.{⊎-elim}
-use mathlib.Core.Path.{_≡_, refl, subst, _∙_}
+use mathlib.Core.List.{List, []}
+use mathlib.Core.Path.{_≡_, refl, _∙_}
 use Prim.Native.Nat.{ℕ, _+_, _-_, _^_, _≤_}
 use native.Mathlib.Omega.{arith}
 use borrow.Author.Needs.{needs}
-use denote.Enum.Declared.{declared, tagOf}
-use types.Run.{OneOf}
 use lib.ListN.{length}
 use Rattle.wear.specs.declared.reads.Going.{Going}
+use Rattle.wear.proofs.ReadLaws.{not-on}
 use Rattle.wear.proofs.TurnLaws as laws
-use Rattle.wear.proofs.reads.Going.{enum}
 use Rattle.wear.proofs.turns.Statement.{statement}
 use Rattle.wear.proofs.turns.Tie as tie
 
@@ -43,9 +40,6 @@ loop-again c =
     (turn .take-turn .kept .0 ∙ l .loop .inv .0, c .enum-told .given .1, (u .0, u .1, omega (arith, u .2, l .loop .inv .2 .2)))
 
 -- it does not
-not-on : (g : Going) → OneOf (1 ∷ 2 ∷ 3 ∷ []) (tagOf (declared enum) g) → g ≡ Going.On → ⊥
-not-on g w e = ⊎-elim (λ z. omega arith) (⊎-elim (λ z. omega arith) (λ z. omega arith)) (subst (λ g. OneOf (1 ∷ 2 ∷ 3 ∷ []) (tagOf (declared enum) g)) e w)
-
 returns : tie.Need-returns Inv-loop μ-loop
 returns c =
     let turn = c .before .before .before in

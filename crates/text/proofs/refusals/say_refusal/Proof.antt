@@ -1,6 +1,6 @@
 -- `say_refusal`: in each arm the octets of the sentence that the definition has there. Assumes nothing.
 use mathlib.Core.Path.{_≡_}
-use Prim.Native.Nat.{ℕ, _+_, _≤_}
+use Prim.Native.Nat.{ℕ, zero, suc, _≤_, _<_}
 use native.Mathlib.Omega.{arith}
 use lib.ListN.{List·getD-eq-default}
 use borrow.Author.Needs.{needs}
@@ -14,9 +14,17 @@ use Rattle.text.proofs.refusals.say_refusal.Tie as tie
 says : (g g′ : Gathered) (n k : ℕ) → n ≡ k → g′ ≡ putAll g (sentence k) → g′ ≡ putAll g (sentence n)
 says g g′ n k e h = rw e h
 
--- a number at or above k that is not k is above it
-above : (n k : ℕ) → (n ≡ k → ⊥) → k ≤ n → k + 1 ≤ n
-above n k h l = omega arith
+-- a number that is none of the first k is past them
+abbrev NoneOf : ℕ → ℕ → Type 0
+NoneOf n zero = Unit {0}
+NoneOf n (suc k) = NoneOf n k × (n ≡ k → ⊥)
+
+past : (n k : ℕ) → NoneOf n k → k ≤ n
+past n zero w = omega arith
+past n (suc k) w = omega (arith, past n k (w .0), ne-lt n k (past n k (w .0)) (w .1))
+  where
+    ne-lt : (n k : ℕ) → k ≤ n → (n ≡ k → ⊥) → k < n
+    ne-lt n k l h = omega arith
 
 -- that of a number past the last
 says-none : (g g′ : Gathered) (n : ℕ) → 18 ≤ n → g′ ≡ putAll g (quoted "no refusal has this number") → g′ ≡ putAll g (sentence n)
@@ -105,6 +113,4 @@ say-refusal-spec =
     (λ c. search needs)
     (λ c. let e = c .before .before in
     let m = e .before .before .before in
-    let r = m .match .rest in
-    let next = above (m .before .before .args .n) in
-    says-none _ _ _ (next 17 (r .1) (next 16 (r .0 .1) (next 15 (r .0 .0 .1) (next 14 (r .0 .0 .0 .1) (next 13 (r .0 .0 .0 .0 .1) (next 12 (r .0 .0 .0 .0 .0 .1) (next 11 (r .0 .0 .0 .0 .0 .0 .1) (next 10 (r .0 .0 .0 .0 .0 .0 .0 .1) (next 9 (r .0 .0 .0 .0 .0 .0 .0 .0 .1) (next 8 (r .0 .0 .0 .0 .0 .0 .0 .0 .0 .1) (next 7 (r .0 .0 .0 .0 .0 .0 .0 .0 .0 .0 .1) (next 6 (r .0 .0 .0 .0 .0 .0 .0 .0 .0 .0 .0 .1) (next 5 (r .0 .0 .0 .0 .0 .0 .0 .0 .0 .0 .0 .0 .1) (next 4 (r .0 .0 .0 .0 .0 .0 .0 .0 .0 .0 .0 .0 .0 .1) (next 3 (r .0 .0 .0 .0 .0 .0 .0 .0 .0 .0 .0 .0 .0 .0 .1) (next 2 (r .0 .0 .0 .0 .0 .0 .0 .0 .0 .0 .0 .0 .0 .0 .0 .1) (next 1 (r .0 .0 .0 .0 .0 .0 .0 .0 .0 .0 .0 .0 .0 .0 .0 .0 .1) (next 0 (r .0 .0 .0 .0 .0 .0 .0 .0 .0 .0 .0 .0 .0 .0 .0 .0 .0 .1) (omega arith))))))))))))))))))) (e .emit-all19 .ensures)))
+    says-none _ _ _ (past (m .before .before .args .n) 18 (m .match .rest)) (e .emit-all19 .ensures)))

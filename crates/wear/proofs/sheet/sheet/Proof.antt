@@ -5,16 +5,17 @@ use lib.ListN.{length}
 use borrow.Author.Needs.{needs}
 use Rattle.ledger.specs.Ledgers.{rowsOf}
 use Rattle.feed.specs.Runs.{state}
+use Rattle.feed.proofs.CountedRuns.{Fits}
 use Rattle.text.specs.Quotes.{quoted}
 use Rattle.text.proofs.GatheredLaws.{put-then, put-whole}
 use Rattle.wear.specs.Sheets.{sheetOf}
 use Rattle.wear.proofs.TurnLaws.{worn-kept}
-use Rattle.wear.proofs.SheetLaws.{Counted, sheet-short, worn-printed}
+use Rattle.wear.proofs.SheetLaws.{sheet-short, worn-printed}
 use Rattle.wear.proofs.sheet.sheet.Statement.{statement}
 use Rattle.wear.proofs.sheet.sheet.Tie as tie
 
 -- the totals have 64 bits
-counted : (z : tie.Start) → Counted (z .args .last .totals)
+counted : (z : tie.Start) → Fits (z .args .last .totals)
 counted z = record {
   accepted = omega (arith, z .good);
   refused = omega (arith, z .good);

@@ -6,7 +6,8 @@ use lib.ListN.{getD}
 use borrow.Author.Needs.{needs}
 use Rattle.text.specs.Quotes.{quoted}
 use Rattle.text.proofs.GatheredLaws.{put-then, put-two, put-whole}
-use Rattle.wear.proofs.TellLaws.{skippedOf, skipped-is, skipped-short}
+use Rattle.wear.specs.Tells.{skippedWords}
+use Rattle.wear.proofs.TellLaws.{skipped-is, skipped-short}
 use Rattle.wear.proofs.tells.skipped_line.Statement.{statement}
 use Rattle.wear.proofs.tells.skipped_line.Tie as tie
 
@@ -31,10 +32,11 @@ returns c =
     let narrow : g .fault-of .result .refusal < 2 ^ 64 = omega (arith, g .fault-of .ok) in
     let cat : getD s 0 0 < 2 ^ 64 = omega (arith, k .shared-slice-known2 .given 0) in
     let len : r .read2 .result < 2 ^ 64 = omega (arith, r .read2 .ok) in
-    let refusal = g .fault-of .ensures .0 in
-    let at = g .fault-of .ensures .1 in
-    let short = skipped-short (z .args .offset) s small _ refusal narrow (getD s 0 0) _ _ refl (r .read2 .ensures) at cat len in
-    let whole = put-whole _ _ _ (skippedOf (z .args .offset) s small _ refusal narrow (getD s 0 0) _ _ refl (r .read2 .ensures) at cat len)
+    let short = skipped-short (z .args .offset) (getD s 0 0) (r .read2 .result) (g .fault-of .result .refusal) (g .fault-of .result .offset) small cat len narrow in
+    let is =
+    skipped-is (z .args .offset) (getD s 0 0) (r .read2 .result) (g .fault-of .result .refusal) (g .fault-of .result .offset) s refl (r .read2 .ensures)
+    (g .fault-of .ensures .0) (g .fault-of .ensures .1) in
+    let whole = put-whole _ _ _ (skippedWords (z .args .offset) (getD s 0 0) (r .read2 .result) (g .fault-of .result .refusal) (g .fault-of .result .offset))
     (omega (arith, short, z .pre .1))
     (put-then _ _ _ _ _
     (put-then _ _ _ _ _
@@ -42,7 +44,7 @@ returns c =
     (d .emit-all .ensures))
     (e .refused-words .ensures))
     (f .fault-words .ensures)) in
-    (whole .0 ∙ skipped-is (z .args .offset) s small _ refusal narrow (getD s 0 0) _ _ refl (r .read2 .ensures) at cat len, whole .1)
+    (whole .0 ∙ is, whole .1)
 
 pub skipped-line-spec : {M : Type 1} → statement M
 skipped-line-spec =

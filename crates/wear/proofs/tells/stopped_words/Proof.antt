@@ -24,12 +24,11 @@ returns c =
     let left = z .pre .0 .1 in
     let small : last .used < 2 ^ 64 = omega (arith, z .good) in
     let narrow : g .fault-of .result .refusal < 2 ^ 64 = omega (arith, g .fault-of .ok) in
-    let is = g .fault-of .ensures .0 in
-    let short = stopped-short (last .used) s small (g .fault-of .result .refusal) is narrow in
+    let short = stopped-short (last .used) (g .fault-of .result .refusal) small narrow in
     let put = put-then _ _ _ _ _ (put-then _ _ _ _ _ (a .word-number .ensures) (b .emit-all .ensures)) (e .refused-words .ensures) in
     let whole = put-whole _ _ _ _ (omega (arith, short, z .pre .1)) put in (
       stop-told _ (z .args .buffer .now) last left s _ (between (z .args .buffer .now) (last .from) (last .to) (left .order) (left .within))
-          (whole .0 ∙ stopped-is (last .used) s small (g .fault-of .result .refusal) is narrow),
+          (whole .0 ∙ stopped-is (last .used) (g .fault-of .result .refusal) s (g .fault-of .ensures .0)),
       whole .1,
     )
 
