@@ -111,6 +111,16 @@ def good_runs():
         holds('--tell with nothing to tell, and FILE', Run(['--tell', '--', f.name]), 0, sheet(185, 30, 4, 0, 4), '')
 
 
+def runs_at_once():
+    """Launchers beside each other do not spoil each other's check."""
+    running = [subprocess.Popen([WEAR], stdin=subprocess.DEVNULL, stdout=subprocess.PIPE, stderr=subprocess.PIPE) for _ in range(8)]
+    for process in running:
+        run = Run.__new__(Run)
+        run.out, run.err = (said.decode() for said in process.communicate(timeout=PATIENCE))
+        run.status = process.returncode
+        holds('eight at once', run, 0, EMPTY, '')
+
+
 def stopped_runs():
     """A stray datagram among reports, a text, a feed cut short, LEN below 4 with much behind it: where, why, and how much was not read."""
     eight = b''.join(report(10 * k) for k in range(1, 9))
@@ -279,6 +289,7 @@ def on_terminal(command, env):
 STAND_IN = """#!/bin/sh
 case $1 in
     check)
+        [ -f crates.txt ] || exit 2
         echo 'rt: octets proved (unchanged since it was last proved)'
         echo 'rt: layouts proved (10 s)'
         echo 'rt: wear proved (25 s)'
@@ -298,6 +309,7 @@ def first_runs():
         box, bin = os.path.join(folder, 'box'), os.path.join(folder, 'bin')
         os.mkdir(box), os.mkdir(bin)
         shutil.copy(WEAR, box)
+        shutil.copy(os.path.join(ROOT, 'crates.txt'), box)
         stand_in, link = os.path.join(bin, 'rt'), os.path.join(folder, 'link')
         with open(stand_in, 'w') as f:
             f.write(STAND_IN.replace('REAL', shutil.which('rt')))
@@ -313,6 +325,7 @@ def first_runs():
         holds('the same, not on a terminal', Run(wear=link, env=env), 0, EMPTY, '')
         unbuilt = Run(wear=link, env=dict(env, PROGRAM=''))
         holds('a program that is not proved', unbuilt, 1, '')
+        holds('the same, with a relative TMPDIR', Run(wear=link, env=dict(env, PROGRAM='', TMPDIR='.'), cwd=folder), 1, '')
         if not unbuilt.err.endswith('rt: wear proved (25 s)\nwear: failed: the program could not be built\n'):
             FAULTS.append('a program that is not proved')
             print('a program that is not proved: %r' % unbuilt.err)
@@ -329,7 +342,7 @@ def first_runs():
 
 def main():
     Run()                       # proves and builds, where that has not been done
-    for cases in (good_runs, stopped_runs, told_runs, live_runs, failed_reads, spoilt_ends, bad_use, first_runs):
+    for cases in (good_runs, runs_at_once, stopped_runs, told_runs, live_runs, failed_reads, spoilt_ends, bad_use, first_runs):
         cases()
     print('told: %d cases, %d differences' % (CASES, len(FAULTS)))
     return 1 if FAULTS else 0
