@@ -2,7 +2,6 @@
 use mathlib.Core.Bool.{true, false}
 use mathlib.Core.List.{[], _∷_, flatMap}
 use mathlib.Core.Path.{_≡_, refl}
-use Prim.Native.Nat.{ℕ}
 use Rattle.octets.specs.Numbers.{octets}
 use Rattle.rows.specs.Rows.{Row}
 use Rattle.ledger.specs.Ledgers.{table}
