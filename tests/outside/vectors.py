@@ -1,4 +1,4 @@
-"""The stored cases of tests/vectors/base, the feeds of tests/wear/base, and document 01's examples, as lines for the program `compare`.
+"""The stored cases and feeds, and document 01's examples, as lines for the program `compare`.
 Octets are in hex, '-' for none, numbers in decimal; the answer comes last.
 
 read OCTETS            NUMBER OFFSET LEN COUNT
@@ -9,31 +9,11 @@ rewrite OCTETS ROOM       NUMBER OUT
 post PAGE OCTETS K ROOM   NUMBER OUT
 feed PAGE OCTETS MORE ROOM   NUMBER OUT and the seven cells
 """
-import json
 import os
 import sys
 
-TESTS = os.path.join(os.path.dirname(os.path.abspath(__file__)), '..')
-BASE = os.path.join(TESTS, 'vectors', 'base')
-FEEDS = [os.path.join(TESTS, 'wear', 'base', name) for name in ('feed1', 'feed2', 'feed3')]
-CASES = {'read': 400, 'step': 400, 'entry': 400, 'rewrite': 400, 'write': 400, 'post': 120, 'load': 120, 'store': 120}
-ENOUGH = 65540
-
-# The cells of a record in wear.h's order, behind category and marks: an item, and its value's name in the stored cases.
-CELLS = [
-    ('010', 'sac'), ('010', 'sic'), ('000', 'type'), ('65/015', 'service'), ('23/015', 'sid'), ('23/015', 'styp'), ('time', 'time'),
-    ('020', 'batch'), ('040', 'nogo'), ('040', 'ovl'), ('040', 'tsv'), ('040', 'pss'), ('050', 'report'),
-    ('100', 'nogo'), ('100', 'odp'), ('100', 'oxt'), ('100', 'msc'), ('100', 'tsv'), ('100', 'spo'), ('100', 'rn'), ('100', 'ext'),
-    ('100', 'gssp'), ('101', 'rp'), ('101', 'sc'), ('101', 'ext'), ('101', 'ssrp'), ('200', 'range'), ('110', 'stat'),
-    ('entries', 'first'), ('entries', 'n'), ('RE', 'first'), ('RE', 'n'), ('SP', 'first'), ('SP', 'n'),
-]
-
-# The items of the fields from 1 on (document 01, "Block and field specification").
-FIELDS = {
-    23: ['010', '000', '23/015', 'time', '100', '101', '200', '110', 'entries', None, None, None, 'RE', 'SP'],
-    65: ['010', '000', '65/015', 'time', '020', '040', '050', None, None, None, None, None, 'RE', 'SP'],
-    242: ['010', 'time', 'entries', None, None, 'SP', 'RE'],
-}
+sys.path.insert(0, os.path.join(os.path.dirname(os.path.abspath(__file__)), '..'))
+import stored
 
 # Document 01, "Worked examples": the octets of a block, the number, and the count of records.
 EXAMPLES = [
@@ -62,26 +42,6 @@ ENDED, STOPPED, MORE = range(3)
 
 def line(*words):
     return ' '.join(str(word) or '-' for word in words)
-
-
-def room_of(case):
-    return ENOUGH if case['room'] is None else case['room']
-
-
-def cells_of(record):
-    """All cells of a record, zero where it has nothing; None where item 110 has an extension. A category that is not read has no
-    values here: its answer is 2, whatever they are."""
-    values = {}
-    for field, named in record['fields'].items():
-        items = FIELDS.get(record['cat'], [])
-        for name, value in named.items() if int(field) <= len(items) else ():
-            values[items[int(field) - 1], name] = value
-    if values.pop(('110', 'ext'), 0):
-        return None
-    unknown = set(values) - set(CELLS)
-    if unknown:
-        sys.exit('vectors.py: no cell for %s' % unknown)
-    return [record['cat'], sum(1 << int(field) - 1 for field in record['fields'])] + [values.get(cell, 0) for cell in CELLS]
 
 
 def page_of(ledger):
@@ -124,23 +84,23 @@ def line_of(case):
     if op == 'read':
         return line(op, case['in'], number, case['offset'], case['len'], case['count'])
     if op == 'step':
-        return line(op, case['in'], case['start'], number, case['offset'], case['next'], *cells_of(case['record']))
+        return line(op, case['in'], case['start'], number, case['offset'], case['next'], *stored.cells_of(case['record']))
     if op == 'entry':
         entry = case['entry'] or {'cat': 0, 'main': 0, 'sub': 0}
         values = [entry[name] for name in (('type', 'ref', 'count') if 'type' in entry else ('cat', 'main', 'sub'))]
         return line(op, case['in'], case['start'], case['k'], number, case['offset'], *values)
     if op == 'rewrite':
-        return line(op, case['in'], room_of(case), number, case['out'])
+        return line(op, case['in'], stored.room_of(case), number, case['out'])
     if op == 'write':
-        cells = cells_of(case['record'])
-        return cells and line(op, *cells, case['source'], room_of(case), number, case['out'])
+        cells = stored.cells_of(case['record'])
+        return cells and line(op, *cells, case['source'], stored.room_of(case), number, case['out'])
     if op == 'post':
         page = page_of(case['ledger'])
-        return page and line(op, page, case['in'], case['k'], ENOUGH, number, page_of(case['after']) if number == 0 else '')
+        return page and line(op, page, case['in'], case['k'], stored.ENOUGH, number, page_of(case['after']) if number == 0 else '')
     if op == 'load':
-        return kept(case['page'], ENOUGH, number, case['page'] if number == 0 else '')
+        return kept(case['page'], stored.ENOUGH, number, case['page'] if number == 0 else '')
     page = page_of(case['ledger'])
-    return page and kept(page, room_of(case), number, case['out'])
+    return page and kept(page, stored.room_of(case), number, case['out'])
 
 
 def left_off(octets, more):
@@ -165,20 +125,15 @@ def feed_lines(octets, page, accepted, refused, posted, unposted):
     for more in (0, 1):
         used, how = left_off(octets, more)
         cells = [room, used, how, accepted, refused - of_end + (how == STOPPED), posted, unposted]
-        yield line('feed', FRESH, octets.hex(), more, ENOUGH, 0, page, *cells)
+        yield line('feed', FRESH, octets.hex(), more, stored.ENOUGH, 0, page, *cells)
         yield line('feed', FRESH, octets.hex(), more, room, 0, page, *cells)
         yield line('feed', FRESH, octets.hex(), more, room - 1, 12, '', *[0] * 7)
 
 
 def stored_feeds():
-    """Each stored feed, with the rows and counts of the sheet that `wear` prints for it."""
-    for path in FEEDS:
-        with open(path, 'rb') as f:
-            octets = f.read()
-        with open(path + '.wear') as f:
-            _, *rows, counts = [text.split() for text in f]
-        page = page_of_rows([(key, int(life), int(reading)) for key, life, reading in rows])
-        yield from feed_lines(octets, page, *map(int, counts[1::2]))
+    """Each stored feed, with the rows and totals of the sheet that `wear` prints for it."""
+    for octets, rows, totals in stored.feeds():
+        yield from feed_lines(octets, page_of_rows(rows), *totals)
 
 
 def examples():
@@ -187,7 +142,7 @@ def examples():
         yield line('read', octets, number, 3 if number in OF_A_RECORD else 0, length, count)
     page = FRESH
     for entry, after in POSTED:
-        yield line('post', page, P8 + entry, 0, ENOUGH, 0, after)
+        yield line('post', page, P8 + entry, 0, stored.ENOUGH, 0, after)
         page = after
     yield from feed_lines(bytes.fromhex(''.join(P8 + entry for entry, _ in POSTED)), page, 4, 0, 4, 0)
 
@@ -197,12 +152,8 @@ def main():
     print('\n'.join(of_examples + of_feeds))
     why = {'write': 'an extension of item 110, for which a record has no cell', 'post': 'a ledger that no page can say',
            'store': 'a ledger that no page can say'}
-    for op, count in CASES.items():
-        with open(os.path.join(BASE, op + '.jsonl')) as f:
-            cases = [json.loads(text) for text in f]
-        if len(cases) != count or any(case['op'] != op for case in cases):
-            sys.exit('vectors.py: %s.jsonl has not its %d cases' % (op, count))
-        lines = [line_of(case) for case in cases]
+    for op, count in stored.CASES.items():
+        lines = [line_of(case) for case in stored.cases(op)]
         left_out = lines.count(None)
         print('\n'.join(text for text in lines if text))
         note = ', %d left out: %s' % (left_out, why[op]) if left_out else ''

@@ -38,7 +38,7 @@ def edited(path, text):
 
 def copy_of_box(path):
     for name in ('crates', 'target', 'tests/wear'):
-        shutil.copytree(os.path.join(ROOT, name), os.path.join(path, name), ignore=shutil.ignore_patterns('inc', 'must-fail', 'base'))
+        shutil.copytree(os.path.join(ROOT, name), os.path.join(path, name), ignore=shutil.ignore_patterns('inc', 'must-fail', 'stored'))
     for name in ('crates.txt', 'wear', 'README.md'):
         shutil.copy(os.path.join(ROOT, name), path)
 

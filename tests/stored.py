@@ -1,0 +1,79 @@
+"""The stored cases of each operation, the stored feeds of `wear`, and a stored record in cells; for tests/vectors and tests/outside. An independent
+program made them from documents 01 and 02."""
+import json
+import os
+import sys
+
+TESTS = os.path.dirname(os.path.abspath(__file__))
+
+CASES = {'read': 400, 'step': 400, 'entry': 400, 'rewrite': 400, 'write': 400, 'post': 120, 'load': 120, 'store': 120}
+FEEDS = ['feed1', 'feed2', 'feed3']
+
+# The cells of a record in wear.h's order, behind category and marks: an item, and its value's name in the stored cases.
+CELLS = [
+    ('010', 'sac'), ('010', 'sic'), ('000', 'type'), ('65/015', 'service'), ('23/015', 'sid'), ('23/015', 'styp'), ('time', 'time'),
+    ('020', 'batch'), ('040', 'nogo'), ('040', 'ovl'), ('040', 'tsv'), ('040', 'pss'), ('050', 'report'),
+    ('100', 'nogo'), ('100', 'odp'), ('100', 'oxt'), ('100', 'msc'), ('100', 'tsv'), ('100', 'spo'), ('100', 'rn'), ('100', 'ext'),
+    ('100', 'gssp'), ('101', 'rp'), ('101', 'sc'), ('101', 'ext'), ('101', 'ssrp'), ('200', 'range'), ('110', 'stat'),
+    ('entries', 'first'), ('entries', 'n'), ('RE', 'first'), ('RE', 'n'), ('SP', 'first'), ('SP', 'n'),
+]
+
+# Item 110 has no extension, and so no cell for one.
+NO_EXTENSION = ('110', 'ext')
+
+# The item at each field of a category (document 01, "Block and field specification").
+FIELDS = {
+    23: {1: '010', 2: '000', 3: '23/015', 4: 'time', 5: '100', 6: '101', 7: '200', 8: '110', 9: 'entries', 13: 'RE', 14: 'SP'},
+    65: {1: '010', 2: '000', 3: '65/015', 4: 'time', 5: '020', 6: '040', 7: '050', 13: 'RE', 14: 'SP'},
+    242: {1: '010', 2: 'time', 3: 'entries', 6: 'SP', 7: 'RE'},
+}
+
+# The room of an output that is large enough for any block.
+ENOUGH = 65540
+
+
+def must(holds, text):
+    if not holds:
+        sys.exit('stored.py: ' + text)
+
+
+def cases(op):
+    """The stored cases of an operation."""
+    with open(os.path.join(TESTS, 'vectors', 'stored', op + '.jsonl')) as f:
+        found = [json.loads(line) for line in f]
+    must(len(found) == CASES[op], '%s: %d cases are stored, not %d' % (op, len(found), CASES[op]))
+    must(all(case['op'] == op for case in found), 'a case of %s.jsonl is of another operation' % op)
+    return found
+
+
+def feeds():
+    """Of each stored feed the octets, and of what `wear` prints for it the rows, each with its key in hex, life count and reading, and the totals."""
+    for name in FEEDS:
+        path = os.path.join(TESTS, 'wear', 'stored', name)
+        with open(path, 'rb') as f:
+            octets = f.read()
+        with open(path + '.wear') as f:
+            _, *rows, totals = [line.split() for line in f]
+        yield octets, [(key, int(life), int(reading)) for key, life, reading in rows], [int(total) for total in totals[1::2]]
+
+
+def room_of(case):
+    return ENOUGH if case['room'] is None else case['room']
+
+
+def items_of(record):
+    """The item of each field that has values. A category that is not read has the items of one that is, by the names of the values."""
+    given = {int(field): named for field, named in record['fields'].items() if named}
+    for items in [FIELDS[record['cat']]] if record['cat'] in FIELDS else FIELDS.values():
+        if all(field in items and all((items[field], name) in CELLS + [NO_EXTENSION] for name in named) for field, named in given.items()):
+            return items
+    must(False, 'no cells for %s' % record)
+
+
+def cells_of(record):
+    """Category, marks (bit f - 1 for field f) and all cells of a record, zero where it has nothing; None where item 110 has an extension."""
+    items = items_of(record)
+    values = {(items[int(field)], name): value for field, named in record['fields'].items() for name, value in named.items()}
+    if values.get(NO_EXTENSION, 0):
+        return None
+    return [record['cat'], sum(1 << int(field) - 1 for field in record['fields'])] + [values.get(cell, 0) for cell in CELLS]
