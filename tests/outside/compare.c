@@ -570,9 +570,10 @@ static void put(uint64_t octet)
 
 static void put_time(void)
 {
-    uint64_t time = one_in(2) ? below(11059200) : ONE_OF(0, 1, 127, 128, 65535, 65536, 11059198, 11059199);
+    uint64_t time = one_in(2) ? below(MODEL_LATEST + 1)
+                             : ONE_OF(0, 1, 127, 128, 65535, 65536, MODEL_LATEST - 1, MODEL_LATEST);
     if (fault == BAD_TIME)
-        time = ONE_OF(11059200, 11059201, 11059455, 0xA9BFFF, 0xFFFFFF, 0x8000000 / 8 + 0xA00000);
+        time = ONE_OF(MODEL_LATEST + 1, MODEL_LATEST + 2, MODEL_LATEST + 256, 0xA9BFFF, 0xFFFFFF, 0xB00000);
     put(time >> 16);
     put(time >> 8);
     put(time);
@@ -947,7 +948,7 @@ static void make_octets(bool statistics)
 
 static const uint64_t edges[] = {
     0, 1, 2, 3, 4, 7, 8, 15, 16, 17, 23, 65, 99, 100, 127, 128, 242, 254, 255, 256, 257, 0x110, 0x8000, 0xFFFF, 0x10000,
-    0xFFFFFF, 0x1000000, 11059199, 11059200, 0xFFFFFFFF, 0x100000000, 0x100000001, 0x100A8BFFF,
+    0xFFFFFF, 0x1000000, MODEL_LATEST, MODEL_LATEST + 1, 0xFFFFFFFF, 0x100000000, 0x100000001, 0x100A8BFFF,
     0x2AAAAAAAAAAAAAAB, 0x5555555555555556, 0x7FFFFFFFFFFFFFFF, 0x8000000000000000, 0xFFFFFFFFFFFFFFFE,
     0xFFFFFFFFFFFFFFFF};
 

@@ -53,7 +53,7 @@ struct item {
 static const struct item source_identifier = {
     .shape = FIXED, .octets = 2, .parts = {{WEAR_SAC, 8, 0, 255}, {WEAR_SIC, 8, 0, 255}}};
 static const struct item type = {.shape = FIXED, .octets = 1, .parts = {{WEAR_TYPE, 8, 1, 3}}};
-static const struct item time_of_day = {.shape = FIXED, .octets = 3, .parts = {{WEAR_TIME, 24, 0, 11059199}}};
+static const struct item time_of_day = {.shape = FIXED, .octets = 3, .parts = {{WEAR_TIME, 24, 0, MODEL_LATEST}}};
 
 static const struct item service_65_015 = {.shape = FIXED, .octets = 1, .parts = {{WEAR_SERVICE, 8, 0, 255}}};
 static const struct item batch_65_020 = {.shape = FIXED, .octets = 1, .parts = {{WEAR_BATCH, 8, 0, 255}}};

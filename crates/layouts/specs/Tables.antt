@@ -1,6 +1,7 @@
 -- The items of document 01's list, each group drawn from its high bit with the documents' names beside the bits.
 use mathlib.Core.Path.{refl}
 use mathlib.Core.List.{[], _∷_}
+use Prim.Native.Nat.{ℕ}
 use Rattle.layouts.specs.Groups.{spare, any, between, Group, group}
 use Rattle.layouts.specs.Layouts.{Layout, unused, fixed, extended, repeated, explicit, octet}
 use Rattle.layouts.specs.declared.form.Form.{Form}
@@ -28,9 +29,13 @@ service =
     ∷ [])
     refl
 
--- 23/070, 65/030 and 242/140, time of day in 1/128 s (003 §5.2.4, 000 §5.2.5, 002 §5.2.1): below 86,400 s
+-- the latest time of day, in 1/128 s: below 86,400 s (01 "Items")
+abbrev pub latest : ℕ
+latest = 11059199
+
+-- 23/070, 65/030 and 242/140, time of day (003 §5.2.4, 000 §5.2.5, 002 §5.2.1)
 abbrev pub time : Group
-time = group 3 (between 24 0 11059199 ∷ []) refl
+time = group 3 (between 24 0 latest ∷ []) refl
 
 -- 65/040, SDPS Configuration and Status (000 §5.2.6)
 abbrev pub sdps : Group

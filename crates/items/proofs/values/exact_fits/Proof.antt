@@ -10,6 +10,7 @@ use denote.Enum.Laws.{val}
 use Rattle.layouts.specs.Groups.{fits}
 use Rattle.layouts.specs.Formats.{fitsIn}
 use Rattle.layouts.specs.Layouts.{chain, format}
+use Rattle.layouts.specs.Tables.{latest}
 use Rattle.items.specs.Typed.{given, itemFormat, exactFits}
 use Rattle.items.specs.declared.typed.Item.{Item}
 use Rattle.items.proofs.typed.Item.{enum, the-type}
@@ -55,7 +56,7 @@ exact-fits-spec =
     (λ c. rw (c .enum-told .given .1))
     (λ c. simp (c .within .ensures, c .before .before .item .given .1, and-true, in-bits 256 1 3 (omega arith)))
     (λ c. rw (c .before .before .item2 .given .1) (c .service-fits .ensures))
-    (λ c. simp (c .before .before .item3 .given .1, and-true, in-bits 16777216 0 11059199 (omega arith)) (simp leb·zero))
+    (λ c. simp (c .before .before .item3 .given .1, and-true, in-bits 16777216 0 latest (omega arith)) (simp leb·zero))
     (λ c. rw (c .before .before .item4 .given .1) (c .sdps-fits .ensures))
     (λ c. simp (c .within2 .ensures, c .before .before .item5 .given .1, and-true, in-bits 256 1 16 (omega arith)))
     (λ c. rw (c .before .before .item6 .given .1) (c .station-fits .ensures))
