@@ -80,12 +80,12 @@ RECORD = {23: record_23, 65: record_65, 242: record_242}
 
 
 def damaged(rng, category, records):
-    """Refused, with a LEN that is right: an item cut off, a time past midnight, a spare field, no field, a category."""
+    """Refused, with a LEN that is right: an item cut off, a time past its latest, a spare field, no field, a category."""
     kind = rng.randrange(5)
     if kind == 0:
         return block(category, records[:-1] + [records[-1][:-1]])
     if kind == 1:
-        return block(65, [b'\xF4\x01\x02\x01\x07\xA8\xC0\x00\x68'])
+        return block(65, [b'\xF4\x01\x02\x01\x07\xA8\xC0\x80\x68'])
     if kind == 2:
         return block(category, records + [b'\x01\x08' if category != 242 else b'\x10'])
     if kind == 3:

@@ -18,7 +18,7 @@ enum {
     MOST_REPORTS = 4096,    /* a report has at least 16 octets, and a block at most 65,535 */
     ENTRY = 6,              /* octets of an entry of 23/120 */
     VERSION = 3,            /* octets of an entry of 242/550 */
-    LATEST = 11059199       /* the last 1/128 s of a day */
+    LATEST = 11059327       /* the last 1/128 s of a leap second */
 };
 
 enum refusal {

@@ -6,7 +6,7 @@ import sys
 
 TESTS = os.path.dirname(os.path.abspath(__file__))
 
-CASES = {'read': 400, 'step': 400, 'entry': 400, 'rewrite': 400, 'write': 400, 'post': 120, 'load': 120, 'store': 120}
+CASES = {'read': 400, 'step': 400, 'entry': 300, 'rewrite': 400, 'write': 400, 'post': 120, 'load': 120, 'store': 120}
 FEEDS = ['feed1', 'feed2', 'feed3']
 
 # The cells of a record in wear.h's order, behind category and marks: an item, and its value's name in the stored cases.

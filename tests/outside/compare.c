@@ -571,7 +571,7 @@ static void put(uint64_t octet)
 static void put_time(void)
 {
     uint64_t time = one_in(2) ? below(MODEL_LATEST + 1)
-                             : ONE_OF(0, 1, 127, 128, 65535, 65536, MODEL_LATEST - 1, MODEL_LATEST);
+                             : ONE_OF(0, 1, 127, 128, 65535, 65536, 11059199, 11059200, MODEL_LATEST - 1, MODEL_LATEST);
     if (fault == BAD_TIME)
         time = ONE_OF(MODEL_LATEST + 1, MODEL_LATEST + 2, MODEL_LATEST + 256, 0xA9BFFF, 0xFFFFFF, 0xB00000);
     put(time >> 16);

@@ -1,4 +1,4 @@
-/* Document 01 in plain C: tables of items and categories, and the rules over them. "01" below is that document. */
+/* Documents 01 and 02 §1 in plain C: tables of items and categories, and the rules over them. "01" below is the first. */
 #include "model.h"
 
 #include <stdbool.h>

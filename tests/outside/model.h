@@ -4,8 +4,8 @@
 
 #include "wear.h"
 
-/* 01, "Items": the latest time, in 1/128 s. */
-enum { MODEL_LATEST = 11059199 };
+/* 02 §1: the latest time, in 1/128 s. */
+enum { MODEL_LATEST = 11059327 };
 
 uint32_t model_read(const uint8_t *octets, size_t n, uint64_t *cells, size_t k);
 uint32_t model_step(const uint8_t *octets, size_t n, uint64_t start, uint64_t *cells, size_t k);

@@ -51,9 +51,9 @@ def skipped(offset, octets, refusal, at):
     return head + 'refused %d, %s; %s\n' % (refusal, WORDS[refusal], fault)
 
 
-# Blocks that are refused and skipped: octets, refusal, offset of the faulty record. All but the last two are document 01's examples.
+# Blocks that are refused and skipped: octets, refusal, offset of the faulty record. All but the last two are examples of document 01, as 02 amends them.
 REFUSED = [(bytes.fromhex(octets), refusal, at) for octets, refusal, at in [
-    ('41000CF401020107A8C00068', 11, 3), ('41000BF001020207000080', 10, 3), ('F2000DE0010200000001170164', 11, 3),
+    ('41000CF401020107A8C08068', 11, 3), ('41000BF001020207000080', 10, 3), ('F2000DE0010200000001170164', 11, 3),
     ('F2000AE0010200000000', 8, 3), ('F2000AE1010200000000', 4, 3), ('30000400', 2, 0), ('4100050180', 5, 3), ('4100050100', 6, 3),
     ('4100050101', 4, 3), ('41000401', 7, 3),
     ('17000A51800200008001', 9, 3),                     # item 110 has no extension

@@ -1,4 +1,4 @@
--- Document 01's worked examples that are marked P: the octets, and everything that the box answers to them.
+-- Document 01's worked examples that are marked P, as the requests of 02 amend them: the octets, and everything that the box answers to them.
 use mathlib.Core.List.{List, [], _∷_}
 use Prim.Native.Nat.{ℕ}
 use Rattle.blocks.specs.Walks.{ReadListed, readRefused, readAccepted, readListed}
@@ -138,8 +138,9 @@ abbrev p8Octets : List ℕ
 p8Octets =
     0x17 ∷ 0x00 ∷ 0x13 ∷ 0xF1 ∷ 0x40 ∷ 0x01 ∷ 0x02 ∷ 0x03 ∷ 0x12 ∷ 0x00 ∷ 0x00 ∷ 0x80 ∷ 0x01 ∷ 0x04 ∷ 0x00 ∷ 0x00 ∷ 0x00 ∷ 0x00 ∷ 0x64 ∷ []
 
-abbrev p4Octets : List ℕ
-p4Octets = 0x41 ∷ 0x00 ∷ 0x0C ∷ 0xF4 ∷ 0x01 ∷ 0x02 ∷ 0x01 ∷ 0x07 ∷ 0xA8 ∷ 0xBF ∷ 0xFF ∷ 0x68 ∷ []
+-- P1 with another time
+abbrev p4Octets : ℕ → ℕ → ℕ → List ℕ
+p4Octets a b c = 0x41 ∷ 0x00 ∷ 0x0C ∷ 0xF4 ∷ 0x01 ∷ 0x02 ∷ 0x01 ∷ 0x07 ∷ a ∷ b ∷ c ∷ 0x68 ∷ []
 
 abbrev pub examples : List Example
 examples =
@@ -155,9 +156,11 @@ examples =
       octets = 0x41 ∷ 0x00 ∷ 0x0D ∷ 0xF5 ∷ 0x00 ∷ 0x01 ∷ 0x02 ∷ 0x01 ∷ 0x07 ∷ 0x00 ∷ 0x00 ∷ 0x80 ∷ 0x68 ∷ [];
       answers = accepted 13 (sdpsRecord 128) noEntry p1Octets;
     }
-    -- P4: P1 with time A8 C0 00: 11; with A8 BF FF: 0
-    ∷ record { octets = 0x41 ∷ 0x00 ∷ 0x0C ∷ 0xF4 ∷ 0x01 ∷ 0x02 ∷ 0x01 ∷ 0x07 ∷ 0xA8 ∷ 0xC0 ∷ 0x00 ∷ 0x68 ∷ []; answers = refused 11 }
-    ∷ record { octets = p4Octets; answers = accepted 12 (sdpsRecord 11059199) noEntry p4Octets }
+    -- P4, as 02 §1 amends it: P1 with time A8 BF FF: 0; A8 C0 00: 0; A8 C0 7F, the last: 0; A8 C0 80: 11
+    ∷ record { octets = p4Octets 0xA8 0xBF 0xFF; answers = accepted 12 (sdpsRecord 11059199) noEntry (p4Octets 0xA8 0xBF 0xFF) }
+    ∷ record { octets = p4Octets 0xA8 0xC0 0x00; answers = accepted 12 (sdpsRecord 11059200) noEntry (p4Octets 0xA8 0xC0 0x00) }
+    ∷ record { octets = p4Octets 0xA8 0xC0 0x7F; answers = accepted 12 (sdpsRecord 11059327) noEntry (p4Octets 0xA8 0xC0 0x7F) }
+    ∷ record { octets = p4Octets 0xA8 0xC0 0x80; answers = refused 11 }
     -- P5: 10
     ∷ record { octets = 0x41 ∷ 0x00 ∷ 0x0B ∷ 0xF0 ∷ 0x01 ∷ 0x02 ∷ 0x02 ∷ 0x07 ∷ 0x00 ∷ 0x00 ∷ 0x80 ∷ []; answers = refused 10 }
     -- P6: 0, category 23 version 1.2; sub version 64: 11

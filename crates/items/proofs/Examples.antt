@@ -25,14 +25,22 @@ sdps-written : itemOctets [] (Item.Sdps (record { nogo = 1; ovl = 1; tsv = 0; ps
 unfolding format put merge octets
 sdps-written = refl
 
--- P4: 86,400 seconds are refused, and 1/128 s less is not
-late : itemAt (0xA8 ∷ 0xC0 ∷ 0x00 ∷ []) 3 (format (layout Form.Time)) 0 ≡ refused 11
+-- P4, as 02 §1 amends it: 86,401 seconds are refused, and 1/128 s less is not; written too
+late : itemAt (0xA8 ∷ 0xC0 ∷ 0x80 ∷ []) 3 (format (layout Form.Time)) 0 ≡ refused 11
 unfolding itemAt runAt format values number fitsIn fits
 late = refl
 
-last : itemAt (0xA8 ∷ 0xBF ∷ 0xFF ∷ []) 3 (format (layout Form.Time)) 0 ≡ got ((11059199 ∷ []) ∷ []) 3
+last : itemAt (0xA8 ∷ 0xC0 ∷ 0x7F ∷ []) 3 (format (layout Form.Time)) 0 ≡ got ((11059327 ∷ []) ∷ []) 3
 unfolding itemAt runAt format values number fitsIn fits
 last = refl
+
+late-written : itemRefusal [] (Item.Time (record { 0 = 11059328 })) ≡ 11
+unfolding format fitsIn fits
+late-written = refl
+
+last-written : itemRefusal [] (Item.Time (record { 0 = 11059327 })) ≡ 0
+unfolding format fitsIn fits
+last-written = refl
 
 -- P6: category 23, version 1.2; and a sub version of 100
 version-p6 : itemAt (0x01 ∷ 0x17 ∷ 0x01 ∷ 0x02 ∷ []) 4 (format (layout Form.Versions)) 0 ≡ got ((1 ∷ []) ∷ (23 ∷ 1 ∷ 2 ∷ []) ∷ []) 4

@@ -8,13 +8,13 @@ pub struct Seconds(pub u8);
 // Of 1/128 s since midnight.
 pub struct TimeOfDay(pub u32);
 
-// The greatest values: of a type (23/000, 65/000) and of a report (65/050), which count from 1; of a time of day; of a period in
-// seconds (GSSP, SSRP), at least 1; and of a version number (242/550).
+// The greatest values: of a type (23/000, 65/000) and of a report (65/050), which count from 1; of a time of day, which may be
+// in a leap second; of a period in seconds (GSSP, SSRP), at least 1; and of a version number (242/550).
 pub const LAST_TYPE: u8 = 3;
 
 pub const LAST_REPORT: u8 = 16;
 
-pub const LATEST: u32 = 11059199;
+pub const LATEST: u32 = 11059327;
 
 pub const LONGEST: u8 = 127;
 

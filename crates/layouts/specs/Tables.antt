@@ -29,9 +29,9 @@ service =
     ∷ [])
     refl
 
--- the latest time of day, in 1/128 s: below 86,400 s (01 "Items")
+-- the latest time of day, in 1/128 s: below 86,401 s, as a day may have a leap second at its end (02 §1)
 abbrev pub latest : ℕ
-latest = 11059199
+latest = 11059327
 
 -- 23/070, 65/030 and 242/140, time of day (003 §5.2.4, 000 §5.2.5, 002 §5.2.1)
 abbrev pub time : Group
