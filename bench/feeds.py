@@ -23,6 +23,7 @@ def block(category, records):
 
 
 def time(rng):
+    """A time of a day without a leap second."""
     return rng.randrange(11059200).to_bytes(3, 'big')
 
 

@@ -79,7 +79,7 @@ enum {
     WEAR_SERVICE,           /* 65/015 */
     WEAR_SID,               /* 23/015 */
     WEAR_STYP,
-    WEAR_TIME,              /* 23/070, 65/030, 242/140: 1/128 s since midnight, from 11,059,200 to 11,059,327 in a leap second */
+    WEAR_TIME,              /* 23/070, 65/030, 242/140: 1/128 s since midnight, at most 11,059,327; from 11,059,200 on in a leap second */
     WEAR_BATCH,             /* 65/020 */
     WEAR_NOGO,              /* 65/040 */
     WEAR_OVL,

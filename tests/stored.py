@@ -1,5 +1,5 @@
 """The stored cases of each operation, the stored feeds of `wear`, and a stored record in cells; for tests/vectors and tests/outside. An independent
-program made them from documents 01 and 02."""
+program made them from document 01 as 02 §1 amends it; those of post, load and store from 01 alone, with one post amended (docs/DECISIONS.md 9)."""
 import json
 import os
 import sys
@@ -33,8 +33,9 @@ ENOUGH = 65540
 
 
 def must(holds, text):
+    """Ends the program that asks, with its name and a sentence, where something does not hold."""
     if not holds:
-        sys.exit('stored.py: ' + text)
+        sys.exit('%s: %s' % (os.path.basename(sys.argv[0]), text))
 
 
 def cases(op):
@@ -48,8 +49,10 @@ def cases(op):
 
 def feeds():
     """Of each stored feed the octets, and of what `wear` prints for it the rows, each with its key in hex, life count and reading, and the totals."""
+    folder = os.path.join(TESTS, 'wear', 'stored')
+    must(sorted(name for name in os.listdir(folder) if '.' not in name) == FEEDS, 'other feeds are stored than %s' % ' '.join(FEEDS))
     for name in FEEDS:
-        path = os.path.join(TESTS, 'wear', 'stored', name)
+        path = os.path.join(folder, name)
         with open(path, 'rb') as f:
             octets = f.read()
         with open(path + '.wear') as f:

@@ -4,6 +4,7 @@ import sys
 
 sys.path.insert(0, os.path.join(os.path.dirname(os.path.abspath(__file__)), '..'))
 import stored
+from stored import must
 
 # A block of the most octets that whole category 23 records of five octets fill: LEN 65,533, 13,106 records. One whose records have a
 # second specification octet of zero: LEN 65,535, 10,922 records, and 54,613 octets in normal form.
@@ -15,11 +16,6 @@ LARGE = [
 
 # The octets of a piece of a feed; 0 is all at once.
 PIECES = [0, 1, 7, 4096]
-
-
-def must(holds, text):
-    if not holds:
-        sys.exit('vectors.py: ' + text)
 
 
 def numbers(values):
@@ -93,7 +89,7 @@ def is_sayable(case):
     return False
 
 
-def groups():
+def all_cases():
     """The cases of each operation, with how many of the stored ones are left out, the large blocks, and the feeds."""
     for op, count in stored.CASES.items():
         said = [line_and_answer(case) for case in stored.cases(op) if is_sayable(case)]
@@ -106,10 +102,11 @@ def judge(path):
     with open(path) as f:
         wrote = f.read().split('\n')
     must(wrote.pop() == '', 'the last line that was written has no end')
-    asked = sum(len(cases) for _, cases, _ in groups())
+    groups = list(all_cases())
+    asked = sum(len(cases) for _, cases, _ in groups)
     must(len(wrote) == asked, '%d lines were written for %d cases' % (len(wrote), asked))
     at, wrong = 0, 0
-    for op, cases, left_out in groups():
+    for op, cases, left_out in groups:
         differ = 0
         for line, expected in cases:
             if wrote[at] != expected:
@@ -123,7 +120,7 @@ def judge(path):
 
 
 if sys.argv[1:] == ['lines']:
-    for _, cases, _ in groups():
+    for _, cases, _ in all_cases():
         for line, _ in cases:
             print(line)
 elif len(sys.argv) == 3 and sys.argv[1] == 'judge':
