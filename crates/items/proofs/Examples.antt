@@ -85,14 +85,8 @@ unfolding format
 eight-next = refl
 
 -- the times of 23/070, 65/030 and 242/140 are one form
-time-23 : formAt (category 23) 4 ≡ Form.Time
-time-23 = refl
-
-time-65 : formAt (category 65) 4 ≡ Form.Time
-time-65 = refl
-
-time-242 : formAt (category 242) 2 ≡ Form.Time
-time-242 = refl
+one-form : formAt (category 23) 4 ∷ formAt (category 65) 4 ∷ formAt (category 242) 2 ∷ [] ≡ Form.Time ∷ Form.Time ∷ Form.Time ∷ []
+one-form = refl
 
 -- category 242 has SP at field 6 and RE at field 7, and a field past the last is spare
 sp-242 : formAt (category 242) 6 ≡ Form.Purpose
