@@ -19,10 +19,14 @@ use blocks::cursor::Cursor;
 use blocks::cursor::Found;
 use blocks::cursor::Step;
 use blocks::walk::Reading;
+use doors::cell::CELLS;
 use doors::cells::record_cells;
 use text::emit;
 use text::more;
 use text::number;
+
+// What a step has behind its offset: the next start, and the cells of a record.
+const BEHIND: usize = 1 + CELLS;
 
 // Refusal, offset, LEN and count.
 fn say_reading(text: &mut [u8], held: usize, answer: Reading) -> usize {
@@ -53,7 +57,7 @@ fn say_step(text: &mut [u8], held: usize, answer: Step) -> usize {
             let at = number(text, held, n as u64);
             let values = [offset as u64];
             let end = more(text, at, &values);
-            more(text, end, &[0; 37])
+            more(text, end, &[0; BEHIND])
         }
     }
 }
