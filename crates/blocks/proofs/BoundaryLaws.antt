@@ -2,7 +2,7 @@
 use mathlib.Core.Path.{_≡_, refl, sym, ap, _∙_, subst}
 use mathlib.Core.Logic.{inl, inr}
 use mathlib.Core.Bool.{Bool, true, false}
-use mathlib.Core.List.{List, [], _∷_, map}
+use mathlib.Core.List.{List, [], _∷_, _++_, map}
 use Prim.Native.Nat.{ℕ, zero, suc, _-_, _≤_, _<_}
 use native.Mathlib.Omega.{arith}
 use borrow.Author.Tests.{leb-true, leb-false, lt-leb, le-leb, le-ltb}
@@ -178,12 +178,12 @@ visited s len n o a =
 
 module _ (s : List ℕ) (o : Octets s) where
   -- a step that takes a record goes forward
-  step-forward : (at q : ℕ) (t : Record) → stepOf s at ≡ Step.Taken t (record { at = q }) → at < q
+  pub step-forward : (at q : ℕ) (t : Record) → stepOf s at ≡ Step.Taken t (record { at = q }) → at < q
   step-forward at q t e =
       let w = step-took s at t (record { at = q }) e in
       record-within s (w .len) (category (w .cat)) o at q (w .taking .r) (w .taking .is) .0
 
-  visited-forward : (at end : ℕ) (ts : List Record) → Visited s at ts end → at ≤ end
+  pub visited-forward : (at end : ℕ) (ts : List Record) → Visited s at ts end → at ≤ end
   visited-forward at end [] j = omega arith
   visited-forward at end (t ∷ ts) (q, e, v) = omega (arith, step-forward at q t e, visited-forward q end ts v)
 
@@ -196,3 +196,38 @@ module _ (s : List ℕ) (o : Octets s) where
       let same : t ≡ u = cc in
       let next : q ≡ p = ap (λ (c : Cursor). c .at) (cc) in
       rw same (ap (λ (l : List Record). u ∷ l) (visited-only q end ts us v (rw (← next) at w)))
+
+  -- Steps from one offset to another and on are steps to the last; and those to the last go on from one that they reach.
+  pub visited-join : (at mid end : ℕ) (ts us : List Record) → Visited s at ts mid → Visited s mid us end → Visited s at (ts ++ us) end
+  visited-join at mid end [] us v w = rw v w
+  visited-join at mid end (t ∷ ts) us (q, e, v) w = (q, e, visited-join q mid end ts us v w)
+
+  pub visited-split : (at mid end : ℕ) (ts vs : List Record) → Visited s at ts mid → Visited s at vs end → mid ≤ end
+      → (us : List Record) × (vs ≡ ts ++ us) × Visited s mid us end
+  visited-split at mid end [] vs v w l = (vs, refl, rw (← v) w)
+  visited-split at mid end (t ∷ ts) [] (q, e, v) w l = absurd (omega (arith, step-forward at q t e, visited-forward q mid ts v))
+  visited-split at mid end (t ∷ ts) (u ∷ vs) (q, e, v) (p, d, w) l =
+      let same : t ≡ u = cc in
+      let next : q ≡ p = ap (λ (c : Cursor). c .at) (cc) in
+      let (us, is, rest) = visited-split q mid end ts vs v (rw (← next) at w) l in
+      (us, ap (λ (y : Record). y ∷ vs) (sym same) ∙ ap (λ (l : List Record). t ∷ l) is, rest)
+
+  -- Steps from 3 to LEN have found an accepted block, and as many records as it has.
+  visited-joined : (cat len : ℕ) → headerOf s ≡ Head.Good cat len → (at end : ℕ) (ts : List Record) → Visited s at ts end
+      → (rs : List Rec) × Joined s len (category cat) at rs end × (length rs ≡ length ts)
+  visited-joined cat len h at end [] v = ([], v, refl)
+  visited-joined cat len h at end (t ∷ ts) (q, e, v) =
+      let w = step-took s at t (record { at = q }) e in
+      let good : Head.Good (w .cat) (w .len) ≡ Head.Good cat len = sym (w .head) ∙ h in
+      let same-cat : w .cat ≡ cat = cc in
+      let same-len : w .len ≡ len = cc in
+      let is : recordAt s len (category cat) at ≡ got (w .taking .r) q = rw (same-cat, same-len) at (w .taking .is) in
+      let (rs, j, count) = visited-joined cat len h q end ts v in
+      let (a, b) = record-within s len (category cat) o at q (w .taking .r) is in
+      (w .taking .r ∷ rs, (q, is, a, b, j), ap suc count)
+
+  pub visited-read : (cat len : ℕ) → headerOf s ≡ Head.Good cat len → (ts : List Record) → Visited s 3 ts len
+      → readOf s ≡ Reading.Accepted len (length ts)
+  visited-read cat len h ts v =
+      let (rs, j, count) = visited-joined cat len h 3 len ts v in
+      filled-read s cat len rs h j ∙ ap (Reading.Accepted len) count

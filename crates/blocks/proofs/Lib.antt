@@ -25,6 +25,7 @@ pub mod BoundaryLaws
 pub mod StoppedLaws
 pub mod StepFaults
 pub mod SameAnswers
+pub mod InsideLaws
 pub mod AtEnd
 pub mod RecordStarts
 pub mod TypedOctets

@@ -113,7 +113,7 @@ module _ (s : List ℕ) (len : ℕ) (c : Category) (gs : List ℕ) (p : ℕ) (tr
   start n = startIn s len (layoutOf c gs) p n
 
   -- the marks as a number are the marks that were read
-  mark-is : (n : ℕ) → marked marks (suc n) ≡ getD (flags gs) n false
+  pub mark-is : (n : ℕ) → marked marks (suc n) ≡ getD (flags gs) n false
   mark-is n = rw (flags-32 gs few) (mark-more (flags gs) (32 - 7 * length gs) n)
 
   layout-is : formats (flagsOf 32 marks) (c .fields) ≡ layoutOf c gs
@@ -125,11 +125,11 @@ module _ (s : List ℕ) (len : ℕ) (c : Category) (gs : List ℕ) (p : ℕ) (tr
   there n = item-run s len _ (start n) (start (suc n)) (getD trs n []) (items-there s len (layoutOf c gs) p q trs read n)
 
   -- the item of field n + 1, by whether it is marked
-  abbrev Stands : ℕ → Bool → Type 0
+  abbrev pub Stands : ℕ → Bool → Type 0
   Stands n true = runAt s len (format (layoutAt c (suc n))) (start n) ≡ got (getD trs n []) (start (suc n))
   Stands n false = (getD trs n [] ≡ []) × (start (suc n) ≡ start n)
 
-  stands : (n : ℕ) → Stands n (getD (flags gs) n false)
+  pub stands : (n : ℕ) → Stands n (getD (flags gs) n false)
   unfolding layoutOf runAt
   stands n = go (getD (flags gs) n false) (formats-at (flags gs) (c .fields) n (λ e. omega (arith, mark-inside (flags gs) n e))) (there n)
     where

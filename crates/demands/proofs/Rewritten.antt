@@ -17,13 +17,16 @@ use Rattle.blocks.specs.Headers.{headerOf}
 use Rattle.blocks.specs.Records.{Rec}
 use Rattle.blocks.specs.Blocks.{all, recordsAt, blockOf, headed}
 use Rattle.blocks.specs.Walks.{answerOf, readOf}
+use Rattle.blocks.specs.Steps.{stepOf}
 use Rattle.blocks.specs.Boundaries.{Joined}
 use Rattle.blocks.specs.declared.header.Head.{Head}
+use Rattle.blocks.specs.declared.record.Record.{Record}
 use Rattle.blocks.specs.declared.walk.Reading.{Reading}
+use Rattle.blocks.specs.declared.cursor.Step.{Step}
 use Rattle.blocks.proofs.WalkSteps.{by-known}
 use Rattle.blocks.proofs.BlockLaws.{headed-len}
 use Rattle.blocks.proofs.JoinLaws.{second-records}
-use Rattle.blocks.proofs.ListedLaws.{read-block, read-listed}
+use Rattle.blocks.proofs.ListedLaws.{read-block, read-listed, step-listed}
 use Rattle.blocks.proofs.BoundaryLaws.{read-filled}
 use Rattle.writing.specs.Written.{rewriteOf}
 use Rattle.writing.proofs.OctetsWritten as written
@@ -32,8 +35,12 @@ use Rattle.writing.proofs.OctetsRewritten.{rewrite-octets}
 use Rattle.writing.proofs.ReadBackTheorems.{One}
 use Rattle.writing.proofs.SameRecords.{same-record}
 use Rattle.demands.specs.Contracts.{Reads, Rewrites}
-use Rattle.demands.specs.Rewritten.{Twins, InTurn}
+use Rattle.demands.specs.Rewritten.{Hands, Twins, InTurn}
 use Rattle.demands.proofs.Demand2.{same-records, as-many}
+
+-- a step that hands out a record is that answer
+pub handed : (s : List ℕ) (at : ℕ) (t : Record) (next : ℕ) → Hands s at t next → stepOf s at ≡ Step.Taken t (record { at = next })
+handed s at t next h = h (stepOf s at) (refl, step-listed s at)
 
 module _ (s x : List ℕ) (o : Octets s) (o' : Octets x) where
   -- records that both have, from an offset in each

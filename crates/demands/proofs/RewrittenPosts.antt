@@ -25,7 +25,7 @@ use Rattle.blocks.specs.Records.{Rec}
 use Rattle.blocks.specs.Blocks.{Block, wrong, all, recordsAt, blockOf, headed}
 use Rattle.blocks.specs.Alike.{RecordsAlikeAt}
 use Rattle.blocks.specs.Forms.{formNumber}
-use Rattle.blocks.specs.Steps.{stepOf, entryValues, entryIn, entryOf}
+use Rattle.blocks.specs.Steps.{entryValues, entryIn, entryOf}
 use Rattle.blocks.specs.Statistics.{isStatistics, statisticsOf}
 use Rattle.blocks.specs.Walks.{answerOf, readOf}
 use Rattle.blocks.specs.Meaning.{itemIn}
@@ -34,7 +34,7 @@ use Rattle.blocks.specs.declared.record.Record.{Record}
 use Rattle.blocks.specs.declared.walk.Reading.{Reading}
 use Rattle.blocks.specs.declared.cursor.Step.{Step}
 use Rattle.blocks.specs.declared.cursor.Found.{Found}
-use Rattle.blocks.proofs.ListedLaws.{read-block, step-listed, entry-listed}
+use Rattle.blocks.proofs.ListedLaws.{read-block, entry-listed}
 use Rattle.blocks.proofs.JoinLaws.{second-block}
 use Rattle.blocks.proofs.StepLaws.{entry-taken, entry-counter}
 use Rattle.blocks.proofs.SameAnswers.{block-alike, block-after-len}
@@ -48,9 +48,9 @@ use Rattle.ledger.specs.declared.Ledger.{Ledger}
 use Rattle.ledger.proofs.ReportLaws.{at-more, report-other, report-counts, report-refused, report-stopped, report-taken}
 use Rattle.ledger.proofs.RecordNumbers.{record-past}
 use Rattle.demands.specs.Contracts.{Rewrites, Posts}
-use Rattle.demands.specs.Rewritten.{Hands, Twins, InTurn}
+use Rattle.demands.specs.Rewritten.{Twins, InTurn}
 use Rattle.demands.proofs.Demand2.{same-records}
-use Rattle.demands.proofs.Rewritten.{same-blocks, rewritten-octets, longer-octets, plain-octets}
+use Rattle.demands.proofs.Rewritten.{handed, same-blocks, rewritten-octets, longer-octets, plain-octets}
 
 -- a form of items before those of entries and content
 no-place : (f : Form) → formNumber f < 13 → (b : Bool) → f ≡ pick b Form.Statistics Form.Versions → ⊥
@@ -100,10 +100,6 @@ module _ (s x : List ℕ) (t u : Record) (same : Same s t x u) (back : Same x u 
   -- so the entries of one, where the other's numbers name them
   named-same : entriesFrom x (firstKey (statisticsOf t)) (t .time .0) (u .entries .at) (t .entries .count) 0 ≡ entriesOf x u
   named-same = rw (source-same, service-same, time-same, count-same)
-
--- a step that hands out a record is that answer
-handed : (s : List ℕ) (at : ℕ) (t : Record) (next : ℕ) → Hands s at t next → stepOf s at ≡ Step.Taken t (record { at = next })
-handed s at t next h = h (stepOf s at) (refl, step-listed s at)
 
 -- The record at a start of each
 module _ (s x : List ℕ) (at next at' next' : ℕ) (w : Twins s x at next at' next') where

@@ -12,6 +12,11 @@ use Rattle.demands.specs.Contracts.{Steps, Entries}
 abbrev pub Hands : List ℕ → ℕ → Record → ℕ → Type 0
 Hands s at t next = (r : Step) → Steps s at r → r ≡ Step.Taken t (record { at = next })
 
+-- so many records of two slices, each from where the one before it ended, of which something holds
+abbrev pub InTurnBy : (ℕ → ℕ → ℕ → ℕ → Type 0) → ℕ → ℕ → ℕ → ℕ → ℕ → Type 0
+InTurnBy Holds zero at at' end end' = (at ≡ end) × (at' ≡ end')
+InTurnBy Holds (suc n) at at' end end' = (next : ℕ) × (next' : ℕ) × Holds at next at' next' × InTurnBy Holds n next next' end end'
+
 module _ (s x : List ℕ) where
   -- the record at a start of each, up to the next: the same either way, content octet by octet, and each entry that is asked for
   pub record Twins (at next at' next' : ℕ) : Type 0 where
@@ -23,7 +28,5 @@ module _ (s x : List ℕ) where
     pub back : Same x other s one
     pub entries : (k : ℕ) (r q : Found) → Entries s at k r → Entries x at' k q → r ≡ q
 
-  -- so many records, each from where the one before it ended
   abbrev pub InTurn : ℕ → ℕ → ℕ → ℕ → ℕ → Type 0
-  InTurn zero at at' end end' = (at ≡ end) × (at' ≡ end')
-  InTurn (suc n) at at' end end' = (next : ℕ) × (next' : ℕ) × Twins at next at' next' × InTurn n next next' end end'
+  InTurn = InTurnBy Twins
