@@ -37,7 +37,7 @@ mod wear {
         ) -> u32;
     }
 
-    pub const VERSION: u32 = 1;
+    pub const VERSION: u32 = 2;
 
     pub const ACCEPTED: u32 = 0;
 
@@ -45,8 +45,8 @@ mod wear {
     pub const SAC: usize = 2;
     pub const SIC: usize = 3;
     pub const TYPE: usize = 4;
-    pub const ENTRIES: usize = 31;
-    pub const CELLS: usize = 36;
+    pub const ENTRIES: usize = 32;
+    pub const CELLS: usize = 37;
 
     pub const FEED_PAGE: usize = 0;
     pub const FEED_USED: usize = 1;

@@ -18,7 +18,7 @@ extern "C" {
 #endif
 
 /* The version of this header, and that of the library. They have to be equal. */
-#define WEAR_VERSION 1
+#define WEAR_VERSION 2
 uint32_t wear_version(void);
 
 /* The refusal numbers. */
@@ -85,6 +85,7 @@ enum {
     WEAR_OVL,
     WEAR_TSV,
     WEAR_PSS,
+    WEAR_STTN,              /* the track re-numbering toggle: changes whenever the SDPS starts to re-number its tracks */
     WEAR_REPORT,            /* 65/050 */
     WEAR_GS_NOGO,           /* 23/100 */
     WEAR_GS_ODP,

@@ -1,5 +1,5 @@
 """The stored cases of each operation, the stored feeds of `wear`, and a stored record in cells; for tests/vectors and tests/outside. An independent
-program made them from document 01 as 02 §1 amends it; those of post, load and store from 01 alone, with one post amended (docs/DECISIONS.md 9)."""
+program made them from document 01 as 02 §1 and §2 amend it; those of post, load and store from 01 alone, with one post amended (docs/DECISIONS.md 9)."""
 import json
 import os
 import sys
@@ -12,7 +12,7 @@ FEEDS = ['feed1', 'feed2', 'feed3']
 # The cells of a record in wear.h's order, behind category and marks: an item, and its value's name in the stored cases.
 CELLS = [
     ('010', 'sac'), ('010', 'sic'), ('000', 'type'), ('65/015', 'service'), ('23/015', 'sid'), ('23/015', 'styp'), ('time', 'time'),
-    ('020', 'batch'), ('040', 'nogo'), ('040', 'ovl'), ('040', 'tsv'), ('040', 'pss'), ('050', 'report'),
+    ('020', 'batch'), ('040', 'nogo'), ('040', 'ovl'), ('040', 'tsv'), ('040', 'pss'), ('040', 'sttn'), ('050', 'report'),
     ('100', 'nogo'), ('100', 'odp'), ('100', 'oxt'), ('100', 'msc'), ('100', 'tsv'), ('100', 'spo'), ('100', 'rn'), ('100', 'ext'),
     ('100', 'gssp'), ('101', 'rp'), ('101', 'sc'), ('101', 'ext'), ('101', 'ssrp'), ('200', 'range'), ('110', 'stat'),
     ('entries', 'first'), ('entries', 'n'), ('RE', 'first'), ('RE', 'n'), ('SP', 'first'), ('SP', 'n'),

@@ -1060,8 +1060,8 @@ static void spoil_value(void)
 {
     size_t cell = WEAR_SAC + below(WEAR_CELLS - WEAR_SAC);
     if (one_in(2))
-        cell = (size_t)ONE_OF(WEAR_TYPE, WEAR_SID, WEAR_STYP, WEAR_TIME, WEAR_NOGO, WEAR_PSS, WEAR_OVL, WEAR_REPORT,
-                              WEAR_GS_RN, WEAR_GS_EXTENDED, WEAR_GSSP, WEAR_SC, WEAR_SC_EXTENDED, WEAR_SSRP, WEAR_STAT);
+        cell = (size_t)ONE_OF(WEAR_TYPE, WEAR_SID, WEAR_STYP, WEAR_TIME, WEAR_NOGO, WEAR_PSS, WEAR_STTN, WEAR_OVL,
+                              WEAR_REPORT, WEAR_GS_RN, WEAR_GS_EXTENDED, WEAR_GSSP, WEAR_SC, WEAR_SC_EXTENDED, WEAR_SSRP, WEAR_STAT);
     given_record[cell] = one_in(3) ? given_record[cell] + (UINT64_C(1) << ONE_OF(1, 2, 3, 4, 7, 8, 16, 24, 32, 63))
                          : one_in(3) ? below(256) : edge();
 }

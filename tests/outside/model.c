@@ -57,9 +57,10 @@ static const struct item time_of_day = {.shape = FIXED, .octets = 3, .parts = {{
 
 static const struct item service_65_015 = {.shape = FIXED, .octets = 1, .parts = {{WEAR_SERVICE, 8, 0, 255}}};
 static const struct item batch_65_020 = {.shape = FIXED, .octets = 1, .parts = {{WEAR_BATCH, 8, 0, 255}}};
+/* 02, §2: document 001 decides, and its last bit alone is spare. */
 static const struct item status_65_040 = {
     .shape = FIXED, .octets = 1,
-    .parts = {{WEAR_NOGO, 2, 0, 3}, {WEAR_OVL, 1, 0, 1}, {WEAR_TSV, 1, 0, 1}, {WEAR_PSS, 2, 0, 3}}};
+    .parts = {{WEAR_NOGO, 2, 0, 3}, {WEAR_OVL, 1, 0, 1}, {WEAR_TSV, 1, 0, 1}, {WEAR_PSS, 2, 0, 3}, {WEAR_STTN, 1, 0, 1}}};
 static const struct item report_65_050 = {.shape = FIXED, .octets = 1, .parts = {{WEAR_REPORT, 8, 1, 16}}};
 
 static const struct item service_23_015 = {

@@ -26,6 +26,8 @@ pub mod StoppedLaws
 pub mod StepFaults
 pub mod SameAnswers
 pub mod InsideLaws
+pub mod SdpsLaws
+pub mod ToggleLaws
 pub mod AtEnd
 pub mod RecordStarts
 pub mod TypedOctets

@@ -9,6 +9,7 @@ pub mod Walks
 pub mod Alike
 pub mod Typed
 pub mod Steps
+pub mod Toggle
 pub mod Meaning
 pub mod Boundaries
 pub mod Faults

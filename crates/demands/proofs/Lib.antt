@@ -3,6 +3,7 @@ pub mod Verdicts
 pub mod Demand1
 pub mod Demand2
 pub mod Rewritten
+pub mod Toggles
 pub mod RewrittenPosts
 pub mod Demand3
 pub mod Unique

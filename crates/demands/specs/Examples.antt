@@ -57,9 +57,9 @@ accepted = posted 13 []
 abbrev pub noEntry : EntryListed
 noEntry = entryRefused 17 0
 
--- SAC 1, SIC 2, type 1, service 7, a time, degraded (1), overload (1), TSV 0, SDPS-2 (2); fields 1, 2, 3, 4 and 6
-abbrev pub sdpsRecord : ℕ → Record
-sdpsRecord time = record {
+-- SAC 1, SIC 2, type 1, service 7, a time, degraded (1), overload (1), TSV 0, SDPS-2 (2), a toggle; fields 1, 2, 3, 4 and 6
+abbrev pub sdpsRecord : ℕ → ℕ → Record
+sdpsRecord time sttn = record {
   category = 65;
   marks = 47;
   source = record { sac = 1; sic = 2 };
@@ -68,7 +68,7 @@ sdpsRecord time = record {
   identification = 7;
   time = record { 0 = time };
   batch = 0;
-  sdps = record { nogo = 1; ovl = 1; tsv = 0; pss = 2 };
+  sdps = record { nogo = 1; ovl = 1; tsv = 0; pss = 2; sttn = sttn };
   report = 0;
   station = record { nogo = 0; odp = 0; oxt = 0; msc = 0; tsv = 0; spo = 0; rn = 0; extended = 0; gssp = record { 0 = 0 } };
   configuration = record { rp = record { 0 = 0 }; sc = 0; extended = 0; ssrp = record { 0 = 0 } };
@@ -90,7 +90,7 @@ versionRecord = record {
   identification = 0;
   time = record { 0 = 0 };
   batch = 0;
-  sdps = record { nogo = 0; ovl = 0; tsv = 0; pss = 0 };
+  sdps = record { nogo = 0; ovl = 0; tsv = 0; pss = 0; sttn = 0 };
   report = 0;
   station = record { nogo = 0; odp = 0; oxt = 0; msc = 0; tsv = 0; spo = 0; rn = 0; extended = 0; gssp = record { 0 = 0 } };
   configuration = record { rp = record { 0 = 0 }; sc = 0; extended = 0; ssrp = record { 0 = 0 } };
@@ -112,7 +112,7 @@ statisticsRecord = record {
   identification = 0;
   time = record { 0 = 128 };
   batch = 0;
-  sdps = record { nogo = 0; ovl = 0; tsv = 0; pss = 0 };
+  sdps = record { nogo = 0; ovl = 0; tsv = 0; pss = 0; sttn = 0 };
   report = 0;
   station = record { nogo = 0; odp = 0; oxt = 0; msc = 0; tsv = 0; spo = 0; rn = 0; extended = 0; gssp = record { 0 = 0 } };
   configuration = record { rp = record { 0 = 0 }; sc = 0; extended = 0; ssrp = record { 0 = 0 } };
@@ -128,12 +128,18 @@ pub record Example : Type 0 where
   pub octets : List ℕ
   pub answers : Answers
 
--- P1 with the time in these three octets
+-- P1 with the time in three octets, and 65/040 in the last
+abbrev p1With : ℕ → ℕ → ℕ → ℕ → List ℕ
+p1With a b c x = 0x41 ∷ 0x00 ∷ 0x0C ∷ 0xF4 ∷ 0x01 ∷ 0x02 ∷ 0x01 ∷ 0x07 ∷ a ∷ b ∷ c ∷ x ∷ []
+
 abbrev timedP1 : ℕ → ℕ → ℕ → List ℕ
-timedP1 a b c = 0x41 ∷ 0x00 ∷ 0x0C ∷ 0xF4 ∷ 0x01 ∷ 0x02 ∷ 0x01 ∷ 0x07 ∷ a ∷ b ∷ c ∷ 0x68 ∷ []
+timedP1 a b c = p1With a b c 0x68
+
+abbrev endedP1 : ℕ → List ℕ
+endedP1 x = p1With 0x00 0x00 0x80 x
 
 abbrev p1Octets : List ℕ
-p1Octets = timedP1 0x00 0x00 0x80
+p1Octets = endedP1 0x68
 
 abbrev p6Octets : List ℕ
 p6Octets = 0xF2 ∷ 0x00 ∷ 0x0D ∷ 0xE0 ∷ 0x01 ∷ 0x02 ∷ 0x00 ∷ 0x00 ∷ 0x00 ∷ 0x01 ∷ 0x17 ∷ 0x01 ∷ 0x02 ∷ []
@@ -144,22 +150,21 @@ p8Octets =
 
 abbrev pub examples : List Example
 examples =
-    -- P1: 0; degraded, overload, SDPS-2, one second
-    record { octets = p1Octets; answers = accepted 12 (sdpsRecord 128) noEntry p1Octets }
-    -- P2: the same with last octet 6B: 0, the same values, rewritten as P1
-    ∷ record {
-      octets = 0x41 ∷ 0x00 ∷ 0x0C ∷ 0xF4 ∷ 0x01 ∷ 0x02 ∷ 0x01 ∷ 0x07 ∷ 0x00 ∷ 0x00 ∷ 0x80 ∷ 0x6B ∷ [];
-      answers = accepted 12 (sdpsRecord 128) noEntry p1Octets;
-    }
+    -- P1: 0; degraded, overload, SDPS-2, the toggle 0, one second; with the spare bit of 65/040 set (69): the same, rewritten as P1
+    record { octets = p1Octets; answers = accepted 12 (sdpsRecord 128 0) noEntry p1Octets }
+    ∷ record { octets = endedP1 0x69; answers = accepted 12 (sdpsRecord 128 0) noEntry p1Octets }
+    -- P2, as 02 §2 amends it: P1 with last octet 6B: 0, the toggle set, rewritten with last octet 6A; that one is its own rewriting
+    ∷ record { octets = endedP1 0x6B; answers = accepted 12 (sdpsRecord 128 1) noEntry (endedP1 0x6A) }
+    ∷ record { octets = endedP1 0x6A; answers = accepted 12 (sdpsRecord 128 1) noEntry (endedP1 0x6A) }
     -- P3: a second specification octet of zero: 0, rewritten as P1
     ∷ record {
       octets = 0x41 ∷ 0x00 ∷ 0x0D ∷ 0xF5 ∷ 0x00 ∷ 0x01 ∷ 0x02 ∷ 0x01 ∷ 0x07 ∷ 0x00 ∷ 0x00 ∷ 0x80 ∷ 0x68 ∷ [];
-      answers = accepted 13 (sdpsRecord 128) noEntry p1Octets;
+      answers = accepted 13 (sdpsRecord 128 0) noEntry p1Octets;
     }
     -- P4, as 02 §1 amends it: P1 with time A8 BF FF: 0; A8 C0 00: 0; A8 C0 7F, the last: 0; A8 C0 80: 11
-    ∷ record { octets = timedP1 0xA8 0xBF 0xFF; answers = accepted 12 (sdpsRecord 11059199) noEntry (timedP1 0xA8 0xBF 0xFF) }
-    ∷ record { octets = timedP1 0xA8 0xC0 0x00; answers = accepted 12 (sdpsRecord 11059200) noEntry (timedP1 0xA8 0xC0 0x00) }
-    ∷ record { octets = timedP1 0xA8 0xC0 0x7F; answers = accepted 12 (sdpsRecord 11059327) noEntry (timedP1 0xA8 0xC0 0x7F) }
+    ∷ record { octets = timedP1 0xA8 0xBF 0xFF; answers = accepted 12 (sdpsRecord 11059199 0) noEntry (timedP1 0xA8 0xBF 0xFF) }
+    ∷ record { octets = timedP1 0xA8 0xC0 0x00; answers = accepted 12 (sdpsRecord 11059200 0) noEntry (timedP1 0xA8 0xC0 0x00) }
+    ∷ record { octets = timedP1 0xA8 0xC0 0x7F; answers = accepted 12 (sdpsRecord 11059327 0) noEntry (timedP1 0xA8 0xC0 0x7F) }
     ∷ record { octets = timedP1 0xA8 0xC0 0x80; answers = refused 11 }
     -- P5: 10
     ∷ record { octets = 0x41 ∷ 0x00 ∷ 0x0B ∷ 0xF0 ∷ 0x01 ∷ 0x02 ∷ 0x02 ∷ 0x07 ∷ 0x00 ∷ 0x00 ∷ 0x80 ∷ []; answers = refused 10 }

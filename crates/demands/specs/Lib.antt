@@ -9,3 +9,4 @@ pub mod GivenPages
 pub mod GivenFeeds
 pub mod Pieces
 pub mod Rewritten
+pub mod Toggles

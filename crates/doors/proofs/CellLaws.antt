@@ -65,6 +65,7 @@ module _ (t : Record) (held : Held t) where
         low wear.ovl refl,
         low wear.tsv refl,
         low wear.pss refl,
+        low wear.sttn refl,
         low wear.report refl,
         low wear.gsNogo refl,
         low wear.gsOdp refl,
@@ -97,7 +98,14 @@ module _ (t : Record) (held : Held t) where
   item-held Identification = small wear.service refl refl
   item-held Time = lt-ltb (cell cs wear.time) (2 ^ 32) (held wear.time (omega arith))
   item-held Batch = small wear.batch refl refl
-  item-held Sdps = simp (small wear.nogo refl refl, small wear.ovl refl refl, small wear.tsv refl refl, small wear.pss refl refl)
+  item-held Sdps =
+      simp (
+        small wear.nogo refl refl,
+        small wear.ovl refl refl,
+        small wear.tsv refl refl,
+        small wear.pss refl refl,
+        small wear.sttn refl refl,
+      )
   item-held Report = small wear.report refl refl
   item-held Station =
       rw (

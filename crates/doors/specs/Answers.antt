@@ -18,7 +18,7 @@ use Rattle.doors.specs.Cells.{recordCells, recordOf, cellsRefusal}
 
 -- WEAR_VERSION
 abbrev pub version : ℕ
-version = 1
+version = 2
 
 -- Fewer cells than needed: 12 before all else, and nothing changed
 

@@ -43,8 +43,11 @@ tsv = ovl + 1
 abbrev pub pss : ℕ
 pss = tsv + 1
 
+abbrev pub sttn : ℕ
+sttn = pss + 1
+
 abbrev pub report : ℕ
-report = pss + 1
+report = sttn + 1
 
 abbrev pub gsNogo : ℕ
 gsNogo = report + 1

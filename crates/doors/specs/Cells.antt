@@ -31,6 +31,7 @@ recordCells t =
     ∷ t .sdps .ovl
     ∷ t .sdps .tsv
     ∷ t .sdps .pss
+    ∷ t .sdps .sttn
     ∷ t .report
     ∷ t .station .nogo
     ∷ t .station .odp
@@ -78,7 +79,7 @@ module _ (cs : List ℕ) where
     service = record { sid = octet wear.sid; styp = octet wear.styp };
     time = record { 0 = long wear.time };
     batch = octet wear.batch;
-    sdps = record { nogo = octet wear.nogo; ovl = octet wear.ovl; tsv = octet wear.tsv; pss = octet wear.pss };
+    sdps = record { nogo = octet wear.nogo; ovl = octet wear.ovl; tsv = octet wear.tsv; pss = octet wear.pss; sttn = octet wear.sttn };
     report = octet wear.report;
     station = record {
       nogo = octet wear.gsNogo;
@@ -120,7 +121,7 @@ module _ (cs : List ℕ) where
   itemFits Identification = octetFits wear.service
   itemFits Time = longFits wear.time
   itemFits Batch = octetFits wear.batch
-  itemFits Sdps = octetFits wear.nogo && (octetFits wear.ovl && (octetFits wear.tsv && octetFits wear.pss))
+  itemFits Sdps = octetFits wear.nogo && (octetFits wear.ovl && (octetFits wear.tsv && (octetFits wear.pss && octetFits wear.sttn)))
   itemFits Report = octetFits wear.report
   itemFits Station =
       octetFits wear.gsNogo

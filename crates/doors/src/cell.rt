@@ -27,7 +27,9 @@ pub const TSV: usize = OVL + 1;
 
 pub const PSS: usize = TSV + 1;
 
-pub const REPORT: usize = PSS + 1;
+pub const STTN: usize = PSS + 1;
+
+pub const REPORT: usize = STTN + 1;
 
 pub const GS_NOGO: usize = REPORT + 1;
 

@@ -42,6 +42,7 @@ pub fn record_cells(record: Record) -> [u64; cell::CELLS]
         record.sdps.ovl as u64,
         record.sdps.tsv as u64,
         record.sdps.pss as u64,
+        record.sdps.sttn as u64,
         record.report as u64,
         record.station.nogo as u64,
         record.station.odp as u64,
@@ -122,6 +123,7 @@ fn sdps_of(cells: &[u64]) -> Sdps
         ovl: octet(cells, cell::OVL),
         tsv: octet(cells, cell::TSV),
         pss: octet(cells, cell::PSS),
+        sttn: octet(cells, cell::STTN),
     }
 }
 
@@ -210,6 +212,7 @@ fn sdps_fits(cells: &[u64]) -> bool
         & octet_fits(cells, cell::OVL)
         & octet_fits(cells, cell::TSV)
         & octet_fits(cells, cell::PSS)
+        & octet_fits(cells, cell::STTN)
 }
 
 fn station_fits(cells: &[u64]) -> bool

@@ -39,7 +39,7 @@ use writing::block::rewrite;
 use writing::block::write;
 
 // WEAR_VERSION of include/wear.h.
-pub const VERSION: u32 = 1;
+pub const VERSION: u32 = 2;
 
 // The cells of a step: the offset, the next start, and the record's.
 const STEP_CELLS: usize = 2 + cell::CELLS;

@@ -12,18 +12,27 @@ use Rattle.layouts.specs.declared.form.Form.{Form}
 use Rattle.items.specs.Typed.{counterOf, itemRefusal, itemOctets}
 use Rattle.items.specs.declared.typed.Item.{Item}
 
--- P1: degraded, overload, SDPS-2; and P2, the same with the spare bits set
-sdps-p1 : values (sdps .parts) 0x68 ≡ 1 ∷ 1 ∷ 0 ∷ 2 ∷ []
+-- P1: degraded, overload, SDPS-2, the toggle 0; and P2, as 02 §2 amends it: the toggle set, whatever the spare bit
+sdps-p1 : values (sdps .parts) 0x68 ≡ 1 ∷ 1 ∷ 0 ∷ 2 ∷ 0 ∷ []
 unfolding values
 sdps-p1 = refl
 
-sdps-p2 : values (sdps .parts) 0x6B ≡ values (sdps .parts) 0x68
+sdps-p2 : values (sdps .parts) 0x6B ≡ 1 ∷ 1 ∷ 0 ∷ 2 ∷ 1 ∷ []
 unfolding values
 sdps-p2 = refl
 
-sdps-written : itemOctets [] (Item.Sdps (record { nogo = 1; ovl = 1; tsv = 0; pss = 2 })) ≡ 0x68 ∷ []
+sdps-spare : values (sdps .parts) 0x6A ≡ values (sdps .parts) 0x6B
+unfolding values
+sdps-spare = refl
+
+sdps-written : itemOctets [] (Item.Sdps (record { nogo = 1; ovl = 1; tsv = 0; pss = 2; sttn = 1 })) ≡ 0x6A ∷ []
 unfolding format put merge octets
 sdps-written = refl
+
+-- a toggle wider than its bit
+sdps-wide : itemRefusal [] (Item.Sdps (record { nogo = 1; ovl = 1; tsv = 0; pss = 2; sttn = 2 })) ≡ 11
+unfolding format fitsIn fits
+sdps-wide = refl
 
 -- P4, as 02 §1 amends it: 86,401 seconds are refused, and 1/128 s less is not; written too
 late : itemAt (0xA8 ∷ 0xC0 ∷ 0x80 ∷ []) 3 (format (layout Form.Time)) 0 ≡ refused 11

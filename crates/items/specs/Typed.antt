@@ -45,7 +45,7 @@ abbrev pub timeOf : Trace → TimeOfDay
 timeOf tr = record { 0 = val tr 0 0 }
 
 abbrev pub sdpsOf : Trace → Sdps
-sdpsOf tr = record { nogo = val tr 0 0; ovl = val tr 0 1; tsv = val tr 0 2; pss = val tr 0 3 }
+sdpsOf tr = record { nogo = val tr 0 0; ovl = val tr 0 1; tsv = val tr 0 2; pss = val tr 0 3; sttn = val tr 0 4 }
 
 abbrev pub stationOf : Trace → Station
 stationOf tr = record {
@@ -140,7 +140,7 @@ given (item.Service x) = exact ((x .sid ∷ x .styp ∷ []) ∷ [])
 given (item.Identification x) = exact ((x ∷ []) ∷ [])
 given (item.Time x) = exact ((x .0 ∷ []) ∷ [])
 given (item.Batch x) = exact ((x ∷ []) ∷ [])
-given (item.Sdps x) = exact ((x .nogo ∷ x .ovl ∷ x .tsv ∷ x .pss ∷ []) ∷ [])
+given (item.Sdps x) = exact ((x .nogo ∷ x .ovl ∷ x .tsv ∷ x .pss ∷ x .sttn ∷ []) ∷ [])
 given (item.Report x) = exact ((x ∷ []) ∷ [])
 given (item.Station x) =
     exact

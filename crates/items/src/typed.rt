@@ -35,12 +35,13 @@ pub struct Service {
     pub styp: u8,
 }
 
-// 65/040.
+// 65/040. STTN changes its value whenever the SDPS starts to re-number its tracks.
 pub struct Sdps {
     pub nogo: u8,
     pub ovl: u8,
     pub tsv: u8,
     pub pss: u8,
+    pub sttn: u8,
 }
 
 // 23/100. Extended is 1 where the extension is there, else 0.

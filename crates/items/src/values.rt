@@ -51,6 +51,7 @@ pub(crate) fn sdps_of(first: u64) -> Sdps
         ovl: (first / 32 % 2) as u8,
         tsv: (first / 16 % 2) as u8,
         pss: (first / 4 % 4) as u8,
+        sttn: (first / 2 % 2) as u8,
     }
 }
 
@@ -93,7 +94,11 @@ pub(crate) fn first_of(item: Item) -> u64
         Item::Time(x) => x.0 as u64,
         Item::Batch(x) => x as u64,
         Item::Sdps(x) => {
-            x.nogo as u64 * 64 + x.ovl as u64 * 32 + x.tsv as u64 * 16 + x.pss as u64 * 4
+            x.nogo as u64 * 64
+                + x.ovl as u64 * 32
+                + x.tsv as u64 * 16
+                + x.pss as u64 * 4
+                + x.sttn as u64 * 2
         }
         Item::Report(x) => x as u64,
         Item::Station(x) => {
@@ -222,7 +227,10 @@ fn sdps_fits(x: Sdps) -> bool
     if 2 <= x.tsv {
         return false;
     }
-    x.pss < 4
+    if 4 <= x.pss {
+        return false;
+    }
+    x.sttn < 2
 }
 
 fn station_fits(x: Station) -> bool

@@ -37,7 +37,7 @@ latest = 11059327
 abbrev pub time : Group
 time = group 3 (between 24 0 latest ∷ []) refl
 
--- 65/040, SDPS Configuration and Status (000 §5.2.6)
+-- 65/040, SDPS Configuration and Status (001, which decides here: 02 §2)
 abbrev pub sdps : Group
 sdps =
     group 1
@@ -45,7 +45,8 @@ sdps =
     ∷ any 1  -- bit 6 OVL
     ∷ any 1  -- bit 5 TSV
     ∷ any 2  -- bits 4/3 PSS
-    ∷ spare 2  -- bits 2/1
+    ∷ any 1  -- bit 2 STTN, the track re-numbering toggle
+    ∷ spare 1  -- bit 1
     ∷ [])
     refl
 

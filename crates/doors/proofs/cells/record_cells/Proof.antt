@@ -38,4 +38,5 @@ record-cells-spec =
     (λ c. omega (arith, c .struct-known28 .given))
     (λ c. omega (arith, c .struct-known29 .given))
     (λ c. omega (arith, c .struct-known30 .given))
+    (λ c. omega (arith, c .struct-known31 .given))
     (λ c. search needs))
