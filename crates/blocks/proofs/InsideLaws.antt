@@ -9,6 +9,7 @@ use lib.Dec.{leb, ltb}
 use lib.ListN.{getD, replicate}
 use Rattle.octets.specs.Choice.{pick, odd}
 use Rattle.octets.specs.Numbers.{Octets, number}
+use Rattle.octets.proofs.Numbers.{number-same}
 use Rattle.layouts.specs.Groups.{values}
 use Rattle.layouts.specs.Formats.{Parsed, got, andThen, Format, done, stop, ask, Trace}
 use Rattle.layouts.specs.Offsets.{runAt, itemAt}
@@ -24,15 +25,10 @@ use Rattle.blocks.proofs.WalkSteps.{item-run, items-within}
 use Rattle.blocks.proofs.ReadSteps.{record-parts}
 
 -- octets from one offset to another are the same
-abbrev pub SameIn : List ℕ → List ℕ → ℕ → ℕ → Type 0
+abbrev SameIn : List ℕ → List ℕ → ℕ → ℕ → Type 0
 SameIn s x from to = (j : ℕ) → from ≤ j → j < to → getD s j 0 ≡ getD x j 0
 
 module _ (s x : List ℕ) (len : ℕ) where
-  number-inside : (k at to : ℕ) → at + k ≤ to → SameIn s x at to → number k s at ≡ number k x at
-  unfolding number
-  number-inside zero at to l same = refl
-  number-inside (suc k) at to l same = rw (number-inside k at to (omega arith) same, same (at + k) (omega arith) (omega arith))
-
   -- an item
   pub run-inside : (f : Format) (at q : ℕ) (tr : Trace) → at ≤ len → runAt s len f at ≡ got tr q → SameIn s x at q → AlikeAt f s x at
   unfolding runAt
@@ -45,7 +41,7 @@ module _ (s x : List ℕ) (len : ℕ) where
       let is : q' ≡ q = cc in
       let room : at + g .wide ≤ len = omega (arith, ltb-false (len - at) (g .wide) e) in
       let w = run-within s len (k v) (at + g .wide) tr' q' room h'' in (
-        ap (values (g .parts)) (number-inside (g .wide) at q (omega (arith, w .0)) same),
+        ap (values (g .parts)) (number-same (g .wide) s x at (λ j a b. same j a (omega (arith, w .0)))),
         run-inside (k v) (at + g .wide) q' tr' room h'' (λ j a b. same j (omega arith) (omega arith)),
       )
 

@@ -26,7 +26,7 @@ use Rattle.blocks.specs.Marks.{marksOf, marked}
 use Rattle.blocks.specs.Headers.{headerOf}
 use Rattle.blocks.specs.Records.{Rec, layoutOf, typeOf, present}
 use Rattle.blocks.specs.Offsets.{specificationAt, itemsAt, recordAt}
-use Rattle.blocks.specs.Typed.{fieldFor, startIn, typedRec}
+use Rattle.blocks.specs.Typed.{has, startIn, typedRec}
 use Rattle.blocks.specs.Steps.{itemsFrom, stepOf}
 use Rattle.blocks.specs.Toggle.{specificationOctets, sdpsStart, toggleBit}
 use Rattle.blocks.specs.declared.header.Head.{Head}
@@ -70,7 +70,7 @@ two-end s len at gs p h =
         omega (arith, eqb-false (getD s at 0 % 2) 1 e)
 
 -- in a record of category 65 that has field 6 (040) there are fields 1 to 4 (010, 000, 015, 030), and field 5 (020) is not
-pub fields-before : (t : ℕ) (bs : List Bool) → meets (needsOf 65) t bs ≡ true → getD bs 5 false ≡ true
+fields-before : (t : ℕ) (bs : List Bool) → meets (needsOf 65) t bs ≡ true → getD bs 5 false ≡ true
     → (getD bs 0 false ≡ true) × (getD bs 1 false ≡ true) × (getD bs 2 false ≡ true) × (getD bs 3 false ≡ true) × (getD bs 4 false ≡ false)
 unfolding meets
 fields-before t bs h six =
@@ -170,7 +170,7 @@ pub record SdpsTook (s : List ℕ) (start : ℕ) (t : Record) (next : ℕ) : Typ
   pub six : getD (flags (r .marks)) 5 false ≡ true
 
 module _ (s : List ℕ) (o : Octets s) (start : ℕ) (t : Record) (next : Cursor) (h : stepOf s start ≡ Step.Taken t next)
-    (m : marked (t .marks) (fieldFor (category (t .category) .fields) Form.Sdps) ≡ true) where
+    (m : has t Form.Sdps ≡ true) where
   abbrev Told : ℕ → Type 0
   Told n = (len : ℕ) → headerOf s ≡ Head.Good n len → 3 ≤ start → start < len → Taking s len n start t (next .at) → SdpsTook s start t (next .at)
 

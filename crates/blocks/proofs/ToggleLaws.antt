@@ -23,11 +23,10 @@ use Rattle.layouts.proofs.Windows.{run-within}
 use Rattle.items.proofs.Items.{number-one}
 use Rattle.items.proofs.Entries.{fits-ranged}
 use Rattle.blocks.specs.Specification.{flags}
-use Rattle.blocks.specs.Marks.{marked}
 use Rattle.blocks.specs.Headers.{headerOf}
 use Rattle.blocks.specs.Records.{Rec, layoutOf, typeOf, present}
 use Rattle.blocks.specs.Offsets.{specificationAt, itemsAt, recordAt}
-use Rattle.blocks.specs.Typed.{fieldFor, startIn, typedRec}
+use Rattle.blocks.specs.Typed.{has, startIn, typedRec}
 use Rattle.blocks.specs.Walks.{readOf}
 use Rattle.blocks.specs.Steps.{itemsFrom, stepOf}
 use Rattle.blocks.specs.Toggle.{sdpsStart, sdpsOctet, otherSdps, withToggle}
@@ -68,7 +67,7 @@ sdps-high a b h =
     let pss : a / 4 % 4 ≡ b / 4 % 4 = omega arith in
     rw (nogo, ovl, tsv, pss)
 
--- items that were read start one behind the other
+-- no item that was read starts before the first
 start-low : (s : List ℕ) (len k : ℕ) (fs : List Format) (at q : ℕ) (trs : List Trace) → at ≤ len → itemsAt s len fs at ≡ got trs q
     → at ≤ startIn s len fs at k
 unfolding startIn itemsAt
@@ -95,7 +94,7 @@ module _ (s x : List ℕ) (len i : ℕ) (others : (j : ℕ) → (j ≡ i → ⊥
   changed = values (sdps .parts) (number 1 x i) ∷ []
 
   -- what was read of the first, with 65/040 as item k there, is read of the second with its values there; all items start where they did
-  pub record Changed (k : ℕ) (fs : List Format) (at q : ℕ) (trs : List Trace) : Type 0 where
+  record Changed (k : ℕ) (fs : List Format) (at q : ℕ) (trs : List Trace) : Type 0 where
     pub items : itemsAt x len fs at ≡ got (set trs k changed) q
     pub starts : (n : ℕ) → startIn s len fs at n ≡ startIn x len fs at n
     pub was : getD trs k [] ≡ values (sdps .parts) (number 1 s i) ∷ []
@@ -209,7 +208,7 @@ module _ (s x : List ℕ) (len at : ℕ) (o : Octets s) (fit : len ≤ length s)
       sym (specification-inside s x len o (c .most - 1) at p (r .marks) e (λ j a b. others j (λ z. omega arith))) ∙ e
 
   -- the second is read too, to the same end
-  pub changed-record : recordAt x len c at ≡ got its q
+  changed-record : recordAt x len c at ≡ got its q
   unfolding recordAt present
   changed-record =
       let (p, e, e', z, y) = record-parts s len c at q r h in
@@ -217,7 +216,7 @@ module _ (s x : List ℕ) (len at : ℕ) (o : Octets s) (fit : len ≤ length s)
       rw (same-specification p e, z, w .items, type-same (r .items) (changed s x len i others), y)
 
   -- its typed record has the toggle that stands there, and is the first's otherwise
-  pub changed-typed : typedRec x len c its (itemsFrom x len c at) ≡ withToggle (getD x i 0 / 2 % 2) (typedRec s len c r (itemsFrom s len c at))
+  changed-typed : typedRec x len c its (itemsFrom x len c at) ≡ withToggle (getD x i 0 / 2 % 2) (typedRec s len c r (itemsFrom s len c at))
   unfolding typedRec
   changed-typed =
       let (p, e, e', z, y) = record-parts s len c at q r h in
@@ -246,14 +245,14 @@ module _ (s x : List ℕ) (len at : ℕ) (o : Octets s) (fit : len ≤ length s)
       )
 
   -- 65/040 lies in the record
-  pub before-end : i < q
+  before-end : i < q
   before-end =
       let (p, e, e', z, y) = record-parts s len c at q r h in
       its-items p e e' .before
 
 -- A step from an offset hands out a record with 65/040; its octet becomes another with the same bits 8/3.
 module _ (s : List ℕ) (o : Octets s) (start : ℕ) (t : Record) (next : Cursor) (h : stepOf s start ≡ Step.Taken t next)
-    (m : marked (t .marks) (fieldFor (category (t .category) .fields) Form.Sdps) ≡ true) (b : ℕ)
+    (m : has t Form.Sdps ≡ true) (b : ℕ)
     (high : b / 4 ≡ sdpsOctet s start / 4) where
   abbrev there : ℕ
   there = sdpsStart s start
@@ -276,7 +275,7 @@ module _ (s : List ℕ) (o : Octets s) (start : ℕ) (t : Record) (next : Cursor
   is-there : getD x there 0 ≡ b
   is-there = getD-set-same s there b 0 (omega (arith, in-record, within, w .fits))
 
-  pub long : length x ≡ length s
+  long : length x ≡ length s
   long = length-set s there b
 
   -- it is an octet too
@@ -297,7 +296,7 @@ module _ (s : List ℕ) (o : Octets s) (start : ℕ) (t : Record) (next : Cursor
     len-fits : number 2 s 1 ≤ length s
     len-fits = omega (arith, good-head .is-len, good-head .fits)
 
-    pub changed-head : headerOf x ≡ Head.Good cat len
+    changed-head : headerOf x ≡ Head.Good cat len
     changed-head = sym (same-header s x first three (rw long three) len-fits (rw long len-fits)) ∙ e
 
   -- The step hands out the record with the toggle of the new octet.
@@ -312,7 +311,7 @@ module _ (s : List ℕ) (o : Octets s) (start : ℕ) (t : Record) (next : Cursor
       (typed ∙ ap (λ (n : ℕ). withToggle (n / 2 % 2) was) is-there ∙ ap (withToggle (b / 2 % 2)) (sym (w .same)))
 
   -- A step whose record does not reach over that octet is the same.
-  pub other-step : (at : ℕ) (u : Record) (d : Cursor) → stepOf s at ≡ Step.Taken u d → ((j : ℕ) → at ≤ j → j < d .at → j ≡ there → ⊥)
+  other-step : (at : ℕ) (u : Record) (d : Cursor) → stepOf s at ≡ Step.Taken u d → ((j : ℕ) → at ≤ j → j < d .at → j ≡ there → ⊥)
       → stepOf x at ≡ Step.Taken u d
   other-step at u d e apart =
       let v = step-took s at u d e in
@@ -326,18 +325,13 @@ module _ (s : List ℕ) (o : Octets s) (start : ℕ) (t : Record) (next : Cursor
       let room = len-fits 65 (w .len) (w .head) in
       sym (step-alike s x first few (rw long few) room (rw long room) at alike) ∙ e
 
-  -- So steps to the record hand out the same records, and so do those behind it.
-  visited-before : (at end : ℕ) (ts : List Record) → end ≤ start → Visited s at ts end → Visited x at ts end
-  visited-before at end [] l v = v
-  visited-before at end (u ∷ ts) l (q, e, v) =
-      let go = visited-forward s o q end ts v in
-      (q, other-step at u (record { at = q }) e (λ j a c z. omega arith), visited-before q end ts l v)
-
-  visited-behind : (at end : ℕ) (ts : List Record) → next .at ≤ at → Visited s at ts end → Visited x at ts end
-  visited-behind at end [] l v = v
-  visited-behind at end (u ∷ ts) l (q, e, v) =
-      let go = step-forward s o at q u e in
-      (q, other-step at u (record { at = q }) e (λ j a c z. omega (arith, in-record)), visited-behind q end ts (omega arith) v)
+  -- So steps between offsets that it does not lie between hand out the same records.
+  visited-apart : (at end : ℕ) (ts : List Record) → ((j : ℕ) → at ≤ j → j < end → j ≡ there → ⊥) → Visited s at ts end → Visited x at ts end
+  visited-apart at end [] apart v = v
+  visited-apart at end (u ∷ ts) apart (q, e, v) =
+      let forward = step-forward s o at q u e in
+      let on = visited-forward s o q end ts v in
+      (q, other-step at u (record { at = q }) e (λ j a b. apart j a (omega arith)), visited-apart q end ts (λ j a b. apart j (omega arith) b) v)
 
   -- The block as it was and as it is: accepted both, as many records, the same but for the one's toggle.
   pub record Both (len n : ℕ) (ts : List Record) : Type 0 where
@@ -367,11 +361,11 @@ module _ (s : List ℕ) (o : Octets s) (start : ℕ) (t : Record) (next : Cursor
       let (rest, split, from) = visited-split s o 3 start len ts vs v all (omega arith) in
       let (us, is, behind) = record-first len more rest from in
       let two : vs ≡ ts ++ (t ∷ us) = split ∙ ap (λ (l : List Record). ts ++ l) is in
-      let before = visited-before 3 start ts (omega arith) v in
+      let before = visited-apart 3 start ts (λ j a b z. omega arith) v in
       let after : List Record = withToggle (b / 2 % 2) t ∷ us in
       let now : Visited x 3 (ts ++ after) len
       = visited-join x changed-octets 3 start len ts after before
-      (next .at, changed-step, visited-behind (next .at) len us (omega arith) behind) in
+      (next .at, changed-step, visited-apart (next .at) len us (λ j a b z. omega (arith, in-record)) behind) in
       let as-many : length (ts ++ (t ∷ us)) ≡ n = ap length (sym two) ∙ many in
       let none-more : length (ts ++ after) ≡ n = length-append ts after ∙ sym (length-append ts (t ∷ us)) ∙ as-many in
       record {

@@ -1,4 +1,5 @@
 -- The typed record: of each item its values, by its form; an item that is not there has none, and is all zero.
+use mathlib.Core.Bool.{Bool}
 use mathlib.Core.List.{List, [], _∷_}
 use Prim.Native.Nat.{ℕ, zero, suc, _+_, _-_}
 use lib.Dec.{eqb}
@@ -8,13 +9,13 @@ use Rattle.layouts.specs.Formats.{Parsed, refused, got, Format, Trace}
 use Rattle.layouts.specs.Offsets.{runAt, traceAt}
 use Rattle.layouts.specs.Layouts.{format}
 use Rattle.layouts.specs.Tables.{layout}
-use Rattle.layouts.specs.Categories.{Category, entriesForm}
+use Rattle.layouts.specs.Categories.{Category, category, entriesForm}
 use Rattle.layouts.specs.declared.form.Form.{Form}
 use Rattle.items.specs.Typed.{val, sourceOf, serviceOf, timeOf, sdpsOf, stationOf, configurationOf, placeAt}
 use Rattle.items.specs.declared.typed.Place.{Place}
 use Rattle.blocks.specs.Forms.{formNumber}
 use Rattle.blocks.specs.Specification.{flags}
-use Rattle.blocks.specs.Marks.{marksOf}
+use Rattle.blocks.specs.Marks.{marksOf, marked}
 use Rattle.blocks.specs.Records.{Rec, layoutOf}
 use Rattle.blocks.specs.declared.record.Record.{Record}
 
@@ -57,6 +58,10 @@ fieldAfter (suc f) = suc (suc f)
 abbrev pub fieldFor : List Form → Form → ℕ
 fieldFor [] f = 0
 fieldFor (g ∷ gs) f = pick (eqb (formNumber g) (formNumber f)) 1 (fieldAfter (fieldFor gs f))
+
+-- the item of a form is marked
+abbrev pub has : Record → Form → Bool
+has t f = marked (t .marks) (fieldFor (category (t .category) .fields) f)
 
 -- Of a record that was read, its items behind an offset
 

@@ -21,6 +21,7 @@ use Rattle.blocks.specs.Steps.{stepOf, entryIn, entryOf}
 use Rattle.blocks.specs.Meaning.{recOf}
 use Rattle.blocks.specs.Alike.{RecordAlikeAt, RecordsAlikeAt}
 use Rattle.blocks.specs.Boundaries.{Visited}
+use Rattle.blocks.specs.Typed.{has}
 use Rattle.blocks.specs.declared.header.Head.{Head}
 use Rattle.blocks.specs.declared.record.Record.{Record}
 use Rattle.blocks.specs.declared.walk.Reading.{Reading}
@@ -32,7 +33,7 @@ use Rattle.blocks.proofs.BoundaryLaws.{visited, step-end}
 use Rattle.blocks.proofs.SameAnswers.{read-alike, block-alike, step-alike, entry-alike, read-after-len, block-after-len, step-after-len, entry-after-len}
 use Rattle.octets.specs.Outcomes.{puts}
 use Rattle.writing.specs.Written.{writeOf, rewriteOf}
-use Rattle.writing.specs.Same.{has, Same}
+use Rattle.writing.specs.Same.{Same}
 use Rattle.octets.specs.declared.output.Written.{Written}
 use Rattle.writing.proofs.RewriteTheorems.{rewrite-accepted, rewrite-reading, rewrite-again, rewrite-short, rewrite-same, rewrite-typed}
 use Rattle.writing.proofs.WriteTheorems.{write-normal, write-reading}

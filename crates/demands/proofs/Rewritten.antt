@@ -1,23 +1,30 @@
 -- Demand 2 for rewriting, at the steps: over the rewriting of a block, and over a block in which a second specification octet of zero was
 -- dropped, steps hand out the same records as over the block, one by one, with their entries and content. Assumes nothing.
 use mathlib.Core.Path.{_≡_, refl, sym, ap, _∙_, subst}
-use mathlib.Core.Bool.{true, false}
+use mathlib.Core.Bool.{Bool, true, false}
 use mathlib.Core.List.{List, [], _∷_, _++_}
-use Prim.Native.Nat.{ℕ, suc, _+_, _%_, _≤_, _<_}
+use Prim.Native.Nat.{ℕ, zero, suc, _+_, _%_, _≤_, _<_}
 use native.Mathlib.Omega.{arith}
 use borrow.Author.Tests.{eqb-false}
+use lib.Dec.{eqb}
 use lib.ListN.{length, drop, length-append}
-use Rattle.octets.specs.Choice.{odd}
+use Rattle.octets.specs.Choice.{pick, odd}
 use Rattle.octets.specs.Numbers.{Octets, number, octets}
 use Rattle.octets.specs.declared.output.Written.{Written}
+use Rattle.octets.proofs.Cases.{test}
 use Rattle.octets.proofs.Outcomes.{Laid, written-laid}
 use Rattle.octets.proofs.Parts.{Octets-drop}
 use Rattle.layouts.specs.Categories.{category, known}
+use Rattle.layouts.specs.declared.form.Form.{Form}
+use Rattle.items.specs.Typed.{settled}
+use Rattle.blocks.specs.Forms.{formNumber}
 use Rattle.blocks.specs.Headers.{headerOf}
 use Rattle.blocks.specs.Records.{Rec}
 use Rattle.blocks.specs.Blocks.{all, recordsAt, blockOf, headed}
 use Rattle.blocks.specs.Walks.{answerOf, readOf}
+use Rattle.blocks.specs.Typed.{has}
 use Rattle.blocks.specs.Steps.{stepOf}
+use Rattle.blocks.specs.Meaning.{itemIn}
 use Rattle.blocks.specs.Boundaries.{Joined}
 use Rattle.blocks.specs.declared.header.Head.{Head}
 use Rattle.blocks.specs.declared.record.Record.{Record}
@@ -29,18 +36,38 @@ use Rattle.blocks.proofs.JoinLaws.{second-records}
 use Rattle.blocks.proofs.ListedLaws.{read-block, read-listed, step-listed}
 use Rattle.blocks.proofs.BoundaryLaws.{read-filled}
 use Rattle.writing.specs.Written.{rewriteOf}
+use Rattle.writing.specs.Same.{Same}
 use Rattle.writing.proofs.OctetsWritten as written
 use Rattle.writing.proofs.OctetsWritten.{joined, octets-are}
 use Rattle.writing.proofs.OctetsRewritten.{rewrite-octets}
 use Rattle.writing.proofs.ReadBackTheorems.{One}
 use Rattle.writing.proofs.SameRecords.{same-record}
 use Rattle.demands.specs.Contracts.{Reads, Rewrites}
-use Rattle.demands.specs.Rewritten.{Hands, Twins, InTurn}
+use Rattle.demands.specs.Rewritten.{Hands, Twins, InTurnBy, InTurn}
 use Rattle.demands.proofs.Demand2.{same-records, as-many}
+
+-- a form of items before those of entries and content
+pub no-place : (f : Form) → formNumber f < 13 → (b : Bool) → f ≡ pick b Form.Statistics Form.Versions → ⊥
+no-place f l true e = omega (arith, ap formNumber e)
+no-place f l false e = omega (arith, ap formNumber e)
+
+-- two records that are the same have the same item of such a form, marked or not
+pub item-same : (s x : List ℕ) (t u : Record) → Same s t x u → Same x u s t → (f : Form) → formNumber f < 13
+    → ((at : ℕ) → settled at (itemIn t f) ≡ itemIn t f) → itemIn u f ≡ itemIn t f
+item-same s x t u same back f l plain =
+    test (has t f) (λ h. same .present f h .1 ∙ plain (same .present f h .0))
+    (λ h. same .absent f (no-place f l (eqb (t .category) 242)) h
+    ∙ sym (back .absent f (no-place f l (eqb (u .category) 242)) (rw (same .category, same .marks) h)))
 
 -- a step that hands out a record is that answer
 pub handed : (s : List ℕ) (at : ℕ) (t : Record) (next : ℕ) → Hands s at t next → stepOf s at ≡ Step.Taken t (record { at = next })
 handed s at t next h = h (stepOf s at) (refl, step-listed s at)
+
+-- what holds of records in turn, another thing does that it tells
+pub in-turn-told : (Holds Told : ℕ → ℕ → ℕ → ℕ → Type 0) → ((at next at' next' : ℕ) → Holds at next at' next' → Told at next at' next')
+    → (n at at' end end' : ℕ) → InTurnBy Holds n at at' end end' → InTurnBy Told n at at' end end'
+in-turn-told Holds Told tells zero at at' end end' w = w
+in-turn-told Holds Told tells (suc n) at at' end end' (q, q', w, more) = (q, q', tells at q at' q' w, in-turn-told Holds Told tells n q q' end end' more)
 
 module _ (s x : List ℕ) (o : Octets s) (o' : Octets x) where
   -- records that both have, from an offset in each

@@ -24,11 +24,11 @@ use Rattle.blocks.specs.Headers.{headerOf}
 use Rattle.blocks.specs.Records.{Rec}
 use Rattle.blocks.specs.Blocks.{Block, wrong, all, recordsAt, blockOf, headed}
 use Rattle.blocks.specs.Alike.{RecordsAlikeAt}
-use Rattle.blocks.specs.Forms.{formNumber}
 use Rattle.blocks.specs.Steps.{entryValues, entryIn, entryOf}
 use Rattle.blocks.specs.Statistics.{isStatistics, statisticsOf}
 use Rattle.blocks.specs.Walks.{answerOf, readOf}
 use Rattle.blocks.specs.Meaning.{itemIn}
+use Rattle.blocks.specs.Typed.{has}
 use Rattle.blocks.specs.declared.header.Head.{Head}
 use Rattle.blocks.specs.declared.record.Record.{Record}
 use Rattle.blocks.specs.declared.walk.Reading.{Reading}
@@ -38,7 +38,7 @@ use Rattle.blocks.proofs.ListedLaws.{read-block, entry-listed}
 use Rattle.blocks.proofs.JoinLaws.{second-block}
 use Rattle.blocks.proofs.StepLaws.{entry-taken, entry-counter}
 use Rattle.blocks.proofs.SameAnswers.{block-alike, block-after-len}
-use Rattle.writing.specs.Same.{has, Same}
+use Rattle.writing.specs.Same.{Same}
 use Rattle.writing.proofs.ReadBackTheorems.{none-same}
 use Rattle.rows.specs.Posting as posting
 use Rattle.ledger.specs.Posts.{postOf}
@@ -50,37 +50,25 @@ use Rattle.ledger.proofs.RecordNumbers.{record-past}
 use Rattle.demands.specs.Contracts.{Rewrites, Posts}
 use Rattle.demands.specs.Rewritten.{Twins, InTurn}
 use Rattle.demands.proofs.Demand2.{same-records}
-use Rattle.demands.proofs.Rewritten.{handed, same-blocks, rewritten-octets, longer-octets, plain-octets}
-
--- a form of items before those of entries and content
-no-place : (f : Form) → formNumber f < 13 → (b : Bool) → f ≡ pick b Form.Statistics Form.Versions → ⊥
-no-place f l true e = omega (arith, ap formNumber e)
-no-place f l false e = omega (arith, ap formNumber e)
+use Rattle.demands.proofs.Rewritten.{item-same, handed, same-blocks, rewritten-octets, longer-octets, plain-octets}
 
 -- a statistics report is of category 23
 of-23 : (t : Record) → isStatistics t ≡ true → t .category ≡ 23
 of-23 t h = test (eqb (t .category) 23) (eqb-true (t .category) 23) (λ e. absurd (false≢true (rw e at h)))
 
--- Two records that are the same
+-- Two records that are the same have the same items
 module _ (s x : List ℕ) (t u : Record) (same : Same s t x u) (back : Same x u s t) where
-  -- have the same item of such a form, marked or not
-  item-same : (f : Form) → formNumber f < 13 → ((at : ℕ) → settled at (itemIn t f) ≡ itemIn t f) → itemIn u f ≡ itemIn t f
-  item-same f l plain =
-      test (has t f) (λ h. same .present f h .1 ∙ plain (same .present f h .0))
-      (λ h. same .absent f (no-place f l (eqb (t .category) 242)) h
-      ∙ sym (back .absent f (no-place f l (eqb (u .category) 242)) (rw (same .category, same .marks) h)))
-
   source-same : u .source ≡ t .source
-  source-same = let e = item-same Form.Source (omega arith) (λ at. refl) in cc
+  source-same = let e = item-same s x t u same back Form.Source (omega arith) (λ at. refl) in cc
 
   service-same : u .service ≡ t .service
-  service-same = let e = item-same Form.Service (omega arith) (λ at. refl) in cc
+  service-same = let e = item-same s x t u same back Form.Service (omega arith) (λ at. refl) in cc
 
   type-same : u .«message_type» ≡ t .«message_type»
-  type-same = let e = item-same Form.MessageType (omega arith) (λ at. refl) in cc
+  type-same = let e = item-same s x t u same back Form.MessageType (omega arith) (λ at. refl) in cc
 
   time-same : u .time ≡ t .time
-  time-same = let e = item-same Form.Time (omega arith) (λ at. refl) in cc
+  time-same = let e = item-same s x t u same back Form.Time (omega arith) (λ at. refl) in cc
 
   statistics-same : isStatistics u ≡ isStatistics t
   statistics-same = rw (same .category, same .marks, type-same)

@@ -1,24 +1,26 @@
 -- Demand 2 for the track re-numbering toggle of 65/040 (02 §2): it is bit 2 of the item's octet; blocks that differ there have different records; and
 -- each keeps its toggle when it is rewritten. Assumes nothing.
-use mathlib.Core.Path.{_≡_, sym, ap, _∙_}
-use mathlib.Core.Bool.{Bool, true, false}
+use mathlib.Core.Path.{_≡_, refl, sym, ap, _∙_}
+use mathlib.Core.Bool.{true, false}
 use mathlib.Core.List.{List, [], _∷_, _++_}
-use Prim.Native.Nat.{ℕ, zero, suc, _+_, _/_, _%_}
+use Prim.Native.Nat.{ℕ, _+_, _/_, _%_, _<_}
 use native.Mathlib.Omega.{arith}
 use lib.Dec.{eqb}
-use lib.ListN.{length}
-use Rattle.octets.specs.Choice.{pick}
+use lib.ListN.{length, take, drop}
+use lib.Seq.{take-at}
 use Rattle.octets.specs.Numbers.{Octets}
 use Rattle.octets.specs.Outcomes.{puts}
 use Rattle.octets.specs.declared.output.Written.{Written}
-use Rattle.octets.proofs.Cases.{test}
+use Rattle.octets.proofs.Outcomes.{written-laid}
 use Rattle.layouts.specs.declared.form.Form.{Form}
 use Rattle.items.specs.declared.typed.Item.{Item}
 use Rattle.items.specs.declared.typed.Sdps.{Sdps}
+use Rattle.blocks.specs.Forms.{formNumber}
 use Rattle.blocks.specs.Blocks.{blockOf, putBlock}
 use Rattle.blocks.specs.Steps.{stepOf}
 use Rattle.blocks.specs.Boundaries.{Visited}
 use Rattle.blocks.specs.Toggle.{sdpsOctet, toggleBit, otherSdps, withToggle}
+use Rattle.blocks.specs.Typed.{has}
 use Rattle.blocks.specs.declared.record.Record.{Record}
 use Rattle.blocks.specs.declared.walk.Reading.{Reading}
 use Rattle.blocks.specs.declared.cursor.Cursor.{Cursor}
@@ -28,14 +30,14 @@ use Rattle.blocks.proofs.BoundaryLaws.{read-filled}
 use Rattle.blocks.proofs.SdpsLaws.{step-toggle}
 use Rattle.blocks.proofs.ToggleLaws.{Both, changed-block, changed-octets, changed-step}
 use Rattle.writing.specs.Written.{rewriteOf}
-use Rattle.writing.specs.Same.{has, Same}
-use Rattle.writing.proofs.RewriteTheorems.{rewrite-accepted}
+use Rattle.writing.specs.Same.{Same}
+use Rattle.writing.proofs.RewriteTheorems.{rewrite-read, rewrite-accepted}
 use Rattle.writing.proofs.ReadBackTheorems.{One}
 use Rattle.writing.proofs.SameRecords.{same-record}
 use Rattle.demands.specs.Contracts.{Reads, Steps, Rewrites}
 use Rattle.demands.specs.Rewritten.{Hands, Twins, InTurnBy, InTurn}
 use Rattle.demands.specs.Toggles.{SameToggle}
-use Rattle.demands.proofs.Rewritten.{handed, same-blocks, rewritten-octets, rewritten-steps}
+use Rattle.demands.proofs.Rewritten.{no-place, item-same, handed, in-turn-told, same-blocks, rewritten-octets, rewritten-steps}
 
 -- The toggle that a step hands out is bit 2 of the octet of 65/040 in the record.
 pub toggle-read : (s : List ℕ) → Octets s → (start : ℕ) (t : Record) (c : Cursor) → Steps s start (Step.Taken t c) → has t Form.Sdps ≡ true
@@ -49,9 +51,9 @@ pub toggles-differ : (s x : List ℕ) → Octets s → Octets x → (start start
 toggles-differ s x o o' start start' t u c d h k m m' differ same =
     differ (sym (toggle-read s o start t c h m) ∙ ap (λ (y : Record). y .sdps .sttn) same ∙ toggle-read x o' start' u d k m')
 
-not-other : (b : Bool) → Form.Sdps ≡ pick b Form.Statistics Form.Versions → ⊥
-not-other true e = let z : _≡_ {A = ℕ} 0 1 = cc in omega arith
-not-other false e = let z : _≡_ {A = ℕ} 0 1 = cc in omega arith
+-- 65/040 comes before entries and content
+before-places : formNumber Form.Sdps < 13
+before-places = omega arith
 
 inner : (a b : Sdps) → Item.Sdps a ≡ Item.Sdps b → a ≡ b
 inner a b e = cc
@@ -62,11 +64,7 @@ module _ (s : List ℕ) (t : Record) (x : List ℕ) (u : Record) (one : Same s t
   has-same f = rw (one .marks, one .category)
 
   same-sdps : u .sdps ≡ t .sdps
-  same-sdps =
-      test (has t Form.Sdps)
-      (λ m. inner _ _ (one .present Form.Sdps m .1))
-      (λ m. inner _ _ (one .absent Form.Sdps (not-other (eqb (t .category) 242)) m
-      ∙ sym (other .absent Form.Sdps (not-other (eqb (u .category) 242)) (has-same Form.Sdps ∙ m))))
+  same-sdps = inner _ _ (item-same s x t u one other Form.Sdps before-places (λ at. refl))
 
 -- A record without 65/040 has the toggle 0.
 pub toggle-absent : (s : List ℕ) → Octets s → (start : ℕ) (t : Record) (c : Cursor) → Steps s start (Step.Taken t c) → has t Form.Sdps ≡ false
@@ -80,7 +78,7 @@ toggle-absent s o start t c h m =
     let u-is : u ≡ t = cc in
     let v-is : v ≡ t = cc in
     ap (λ (y : Record). y .sdps .sttn) (sym v-is)
-    ∙ ap (λ (y : Sdps). y .sttn) (inner _ _ (same .absent Form.Sdps (not-other (eqb (u .category) 242)) (ap (λ (y : Record). has y Form.Sdps) u-is ∙ m)))
+    ∙ ap (λ (y : Sdps). y .sttn) (inner _ _ (same .absent Form.Sdps (no-place Form.Sdps before-places (eqb (u .category) 242)) (ap (λ (y : Record). has y Form.Sdps) u-is ∙ m)))
 
 -- a step goes to one next start
 next-same : (s : List ℕ) (at : ℕ) (t u : Record) (q p : ℕ) → Hands s at t q → stepOf s at ≡ Step.Taken u (record { at = p }) → q ≡ p
@@ -106,10 +104,6 @@ module _ (s x : List ℕ) (o : Octets s) (o' : Octets x) where
             ∙ kept ∙ step-toggle s o at (w .one) (record { at = next }) (handed s at (w .one) next (w .first)) m;
       }
 
-  toggles-in-turn : (n at at' end end' : ℕ) → InTurn s x n at at' end end' → InTurnBy (SameToggle s x) n at at' end end'
-  toggles-in-turn zero at at' end end' w = w
-  toggles-in-turn (suc n) at at' end end' (q, q', w, more) = (q, q', twins-toggle at q at' q' w, toggles-in-turn n q q' end end' more)
-
   -- the records behind those that steps to a start of each hand out
   twins-at : (mid mid' : ℕ) (t : Record) (us ts : List Record) (at at' end end' : ℕ) → InTurn s x (length (ts ++ (t ∷ us))) at at' end end'
       → Visited s at ts mid → Visited x at' ts mid' → (next : ℕ) × (next' : ℕ) × Twins s x mid next mid' next'
@@ -123,7 +117,8 @@ module _ (s x : List ℕ) (o : Octets s) (o' : Octets x) where
 pub toggles-kept : (s : List ℕ) → Octets s → (l : List ℕ) → Octets l → (out : List ℕ) (n : ℕ) → Rewrites s l out (Written.Octets n)
     → (len k : ℕ) → Reads s (Reading.Accepted len k) → InTurnBy (SameToggle s out) k 3 3 len n
 toggles-kept s o l o' out n h len k a =
-    toggles-in-turn s out o (rewritten-octets s o l o' out n h) k 3 3 len n (rewritten-steps s o l o' out n h len k a)
+    in-turn-told (Twins s out) (SameToggle s out) (twins-toggle s out o (rewritten-octets s o l o' out n h)) k 3 3 len n
+    (rewritten-steps s o l o' out n h len k a)
 
 -- Two blocks that differ in bits 2 and 1 of 65/040 alone: the records ts of a block s, then t, which has 65/040, and others; and the block in which
 -- the octet of t's 65/040 is b, with the same bits 8/3.
@@ -149,15 +144,13 @@ module _ (s : List ℕ) (o : Octets s) (len n : ℕ) (a : Reads s (Reading.Accep
 
   -- octets that are rewritten as the same have the same records
   same-rewritten : rewriteOf s ≡ rewriteOf x → blockOf s ≡ blockOf x
-  unfolding rewriteOf
   same-rewritten same =
       let (cat, rs, head, j, count, is) = read-filled s len n o (sym (a .0)) in
-      let put : rewriteOf s ≡ puts (putBlock cat rs) = rw is in
+      let put = rewrite-read s cat rs is in
       sym (rewrite-accepted s (putBlock cat rs) o put []) ∙ rewrite-accepted x (putBlock cat rs) octets-too (sym same ∙ put) []
 
-  -- Where the toggle is another, the rewriting is.
-  pub rewritings-differ : (b / 2 % 2 ≡ t .sdps .sttn → ⊥) → rewriteOf s ≡ rewriteOf (otherSdps s start b) → ⊥
-  rewritings-differ differ same =
+  other-rewriting : (b / 2 % 2 ≡ t .sdps .sttn → ⊥) → rewriteOf s ≡ rewriteOf x → ⊥
+  other-rewriting differ same =
       let turn : InTurn s x n 3 3 len len = same-blocks s x o octets-too len n len n (sym (a .0)) (both .accepted) (same-rewritten same) in
       let turns : InTurn s x (length (ts ++ (t ∷ both .us))) 3 3 len len = rw (both .many) turn in
       let (q, q', w) = twins-at s x o octets-too start start t (both .us) ts 3 3 len len turns v (both .before) in
@@ -168,3 +161,13 @@ module _ (s : List ℕ) (o : Octets s) (len n : ℕ) (a : Reads s (Reading.Accep
       let is-x : w .other ≡ withToggle (b / 2 % 2) t = cc in
       let toggle : Record → ℕ = λ y. y .sdps .sttn in
       differ (ap toggle (sym is-x) ∙ ap (λ (y : Sdps). y .sttn) (same-sdps s (w .one) x (w .other) (w .same) (w .back)) ∙ ap toggle is-t)
+
+  -- Where the toggle is another, the rewriting is: what is put out for the one and for the other differs.
+  pub rewritings-differ : (b / 2 % 2 ≡ t .sdps .sttn → ⊥) → (l l' out out' : List ℕ) (k k' : ℕ) → Rewrites s l out (Written.Octets k)
+      → Rewrites (otherSdps s start b) l' out' (Written.Octets k') → take k out ≡ take k' out' → ⊥
+  rewritings-differ differ l l' out out' k k' w w' same =
+      let one = written-laid (rewriteOf s) l out k (w .0) (w .1) in
+      let other = written-laid (rewriteOf x) l' out' k' (w' .0) (w' .1) in
+      let first : take k out ≡ one .xs = ap (take k) (one .same) ∙ take-at (one .xs) (drop k l) k (sym (one .long)) in
+      let second : take k' out' ≡ other .xs = ap (take k') (other .same) ∙ take-at (other .xs) (drop k' l') k' (sym (other .long)) in
+      other-rewriting differ (one .is ∙ ap puts (sym first ∙ same ∙ second) ∙ sym (other .is))

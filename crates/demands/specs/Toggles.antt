@@ -5,8 +5,8 @@ use mathlib.Core.List.{List}
 use Prim.Native.Nat.{ℕ}
 use Rattle.layouts.specs.declared.form.Form.{Form}
 use Rattle.blocks.specs.Toggle.{toggleBit}
+use Rattle.blocks.specs.Typed.{has}
 use Rattle.blocks.specs.declared.record.Record.{Record}
-use Rattle.writing.specs.Same.{has}
 use Rattle.demands.specs.Rewritten.{Hands}
 
 -- the record at a start of each, up to the next: the second has the toggle of the first; where 65/040 is there, so has bit 2 of its octet

@@ -10,7 +10,7 @@ use lib.Dec.{ltb, eqb}
 use lib.ListN.{length, getD, length-append, List·getD-append, List·getD-eq-default}
 use Rattle.octets.specs.Choice.{pick}
 use Rattle.octets.specs.Numbers.{Octets, number}
-use Rattle.octets.proofs.Numbers.{number-lt}
+use Rattle.octets.proofs.Numbers.{number-lt, number-same}
 use Rattle.octets.proofs.Cases.{test, choose}
 use Rattle.blocks.specs.Statistics.{statisticsOf}
 use Rattle.blocks.specs.Steps.{stepOf}
@@ -48,9 +48,7 @@ module _ (s t : List ℕ) where
 
   -- a number of octets that are there
   number-more : (k at : ℕ) → at + k ≤ length s → number k (s ++ t) at ≡ number k s at
-  unfolding number
-  number-more zero at l = refl
-  number-more (suc k) at l = rw (number-more k at (omega arith), at-more (at + k) (omega arith))
+  number-more k at l = number-same k (s ++ t) s at (λ j a b. at-more j (omega arith))
 
   len-more : 3 ≤ length s → lenOf (s ++ t) ≡ lenOf s
   len-more l = number-more 2 1 (omega arith)

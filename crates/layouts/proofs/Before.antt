@@ -2,11 +2,12 @@
 use mathlib.Core.Path.{_≡_, refl}
 use mathlib.Core.Bool.{Bool, true, false}
 use mathlib.Core.List.{List}
-use Prim.Native.Nat.{ℕ, zero, suc, _+_, _-_, _≤_}
+use Prim.Native.Nat.{ℕ, _+_, _-_, _≤_}
 use native.Mathlib.Omega.{arith}
 use lib.Dec.{ltb}
 use borrow.Author.Tests.{ltb-false}
 use Rattle.octets.specs.Numbers.{number}
+use Rattle.octets.proofs.Numbers.{number-same}
 use Rattle.layouts.specs.Groups.{values}
 use Rattle.layouts.specs.Formats.{Format, done, stop, ask}
 use Rattle.layouts.specs.Offsets.{runAt, itemAt}
@@ -14,9 +15,7 @@ use Rattle.layouts.specs.Alike.{SameBefore}
 
 module _ (len : ℕ) (s t : List ℕ) (same : SameBefore len s t) where
   number-before : (k at : ℕ) → k ≤ len - at → number k s at ≡ number k t at
-  unfolding number
-  number-before zero at h = refl
-  number-before (suc k) at h = rw (number-before k at (omega arith), same (at + k) (omega arith))
+  number-before k at h = number-same k s t at (λ j a b. same j (omega arith))
 
   pub run-before : (f : Format) (at : ℕ) → runAt s len f at ≡ runAt t len f at
   unfolding runAt

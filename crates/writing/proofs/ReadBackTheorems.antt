@@ -30,7 +30,7 @@ use Rattle.blocks.specs.Records.{Rec}
 use Rattle.blocks.specs.Blocks.{all, blockOf}
 use Rattle.blocks.specs.Offsets.{recordAt}
 use Rattle.blocks.specs.Walks.{readOf}
-use Rattle.blocks.specs.Typed.{nowhere, absent, fieldFor, placeIn, valuesFor, startFor, typedRec}
+use Rattle.blocks.specs.Typed.{nowhere, absent, fieldFor, placeIn, valuesFor, startFor, typedRec, has}
 use Rattle.blocks.specs.Steps.{itemsFrom, stepOf, entryGroupOf, entryValues, foundOf, entryIn, entryOf}
 use Rattle.blocks.specs.Meaning.{itemIn, valuesOf, recOf}
 use Rattle.blocks.specs.Boundaries.{Joined}
@@ -48,7 +48,7 @@ use Rattle.blocks.proofs.BoundaryLaws.{read-filled, step-read}
 use Rattle.blocks.proofs.StepLaws.{entry-taken}
 use Rattle.octets.specs.Outcomes.{puts}
 use Rattle.writing.specs.Written.{writeOf}
-use Rattle.writing.specs.Same.{has, otherForm, Same}
+use Rattle.writing.specs.Same.{otherForm, Same}
 use Rattle.writing.proofs.MarksWritten.{flags-sevens, by-fields}
 use Rattle.writing.proofs.ItemsWritten.{form-in}
 use Rattle.writing.proofs.RecordWritten.{Fine, fine}

@@ -15,7 +15,7 @@ use Rattle.layouts.specs.Categories.{category, entriesForm}
 use Rattle.blocks.specs.Specification.{flags}
 use Rattle.blocks.specs.Marks.{marksOf}
 use Rattle.blocks.specs.Records.{Rec}
-use Rattle.blocks.specs.Typed.{typedRec}
+use Rattle.blocks.specs.Typed.{typedRec, has}
 use Rattle.blocks.specs.Steps.{itemsFrom, stepOf, entryIn, entryOf}
 use Rattle.blocks.specs.Meaning.{recOf}
 use Rattle.blocks.specs.declared.record.Record.{Record}
@@ -30,7 +30,7 @@ use Rattle.blocks.proofs.MeaningLaws.{means-read}
 use Rattle.blocks.proofs.BoundaryLaws.{step-read}
 use Rattle.blocks.proofs.StepLaws.{entry-taken}
 use Rattle.blocks.proofs.StepLaws as steps
-use Rattle.writing.specs.Same.{has, Same}
+use Rattle.writing.specs.Same.{Same}
 use Rattle.writing.proofs.RecordWritten.{Fine, fine}
 use Rattle.writing.proofs.Reread.{read-judged}
 use Rattle.writing.proofs.ReadBackTheorems.{One, back, back-step, back-same, back-entry, back-found, none-same}

@@ -1,22 +1,16 @@
 -- When a record that was read is the one that was given for writing: places aside, and values of absent items and extensions taken as zero.
 use mathlib.Core.Path.{_≡_}
-use mathlib.Core.Bool.{Bool, true, false}
+use mathlib.Core.Bool.{true, false}
 use mathlib.Core.List.{List}
 use Prim.Native.Nat.{ℕ, _+_, _<_}
 use lib.Dec.{eqb}
 use lib.ListN.{getD}
 use Rattle.octets.specs.Choice.{pick}
-use Rattle.layouts.specs.Categories.{category}
 use Rattle.layouts.specs.declared.form.Form.{Form}
 use Rattle.items.specs.Typed.{settled}
-use Rattle.blocks.specs.Marks.{marked}
-use Rattle.blocks.specs.Typed.{absent, fieldFor}
+use Rattle.blocks.specs.Typed.{absent, has}
 use Rattle.blocks.specs.Meaning.{itemIn, recOf}
 use Rattle.blocks.specs.declared.record.Record.{Record}
-
--- the item of a form is marked
-abbrev pub has : Record → Form → Bool
-has t f = marked (t .marks) (fieldFor (category (t .category) .fields) f)
 
 -- entries have one form in a category (`entriesForm`), and those of the other form are none of its items
 abbrev pub otherForm : ℕ → Form
