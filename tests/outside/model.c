@@ -1,4 +1,4 @@
-/* Documents 01 and 02 §1 in plain C: tables of items and categories, and the rules over them. "01" below is the first. */
+/* Documents 01 and 02 §1 and §2 in plain C: tables of items and categories, and the rules over them. "01" below is the first. */
 #include "model.h"
 
 #include <stdbool.h>
@@ -57,7 +57,7 @@ static const struct item time_of_day = {.shape = FIXED, .octets = 3, .parts = {{
 
 static const struct item service_65_015 = {.shape = FIXED, .octets = 1, .parts = {{WEAR_SERVICE, 8, 0, 255}}};
 static const struct item batch_65_020 = {.shape = FIXED, .octets = 1, .parts = {{WEAR_BATCH, 8, 0, 255}}};
-/* 02, §2: document 001 decides, and its last bit alone is spare. */
+/* 02 §2: document 001 decides; the last bit alone is spare. */
 static const struct item status_65_040 = {
     .shape = FIXED, .octets = 1,
     .parts = {{WEAR_NOGO, 2, 0, 3}, {WEAR_OVL, 1, 0, 1}, {WEAR_TSV, 1, 0, 1}, {WEAR_PSS, 2, 0, 3}, {WEAR_STTN, 1, 0, 1}}};

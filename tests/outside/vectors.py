@@ -15,7 +15,7 @@ import sys
 sys.path.insert(0, os.path.join(os.path.dirname(os.path.abspath(__file__)), '..'))
 import stored
 
-# Document 01, "Worked examples", as 02 §1 amends them: the octets of a block, the number, and the count of records.
+# Document 01, "Worked examples", as 02 §1 and §2 amend them: the octets of a block, the number, and the count of records.
 EXAMPLES = [
     ('41000CF40102010700008068', 0, 1), ('41000CF4010201070000806B', 0, 1), ('41000DF5000102010700008068', 0, 1),
     ('41000CF401020107A8BFFF68', 0, 1), ('41000CF401020107A8C00068', 0, 1), ('41000CF401020107A8C07F68', 0, 1),
