@@ -1,10 +1,9 @@
 // The marks of a record's fields as a number: bit f - 1 for field f.
 ghost use mathlib.Core.Path.{_≡_};
-ghost use mathlib.Core.Bool.{true};
 ghost use mathlib.Core.List.{[], _∷_};
 ghost use Prim.Native.Nat.{_+_, _*_, _-_, _/_, _≤_, _<_};
 ghost use lib.ListN.{length, drop};
-ghost use Rattle.layouts.specs.Categories.{category, known};
+ghost use Rattle.layouts.specs.Categories.{category};
 ghost use Rattle.blocks.specs.Specification.{flags};
 ghost use Rattle.blocks.specs.Marks.{marksOf, flagsOf, marked, groupsOf, nextMarked};
 ghost use Rattle.blocks.specs.Records.{marksSpare, marksRefusal};
@@ -68,9 +67,8 @@ pub(crate) fn next_field(marks: u32, from: usize) -> usize
     f
 }
 
-// A category's last field: a specification octet marks seven. Only for the next layer: the category is one that is read.
+// A category's last field: a specification octet marks seven. One that is not read has none.
 pub fn last_field(cat: u8) -> usize
-    requires { ⌜ known cat ≡ true ⌝ }
     ensures { λ r. ⌜ (r ≡ length (category cat .fields)) × (r ≤ 14) ⌝ }
 {
     layouts::category::most_of(cat) as usize * 7

@@ -7,8 +7,9 @@ use native.Mathlib.Nat.{zero-add, add-zero, add-suc, suc-add}
 use lib.Dec.{eqb}
 use lib.ListN.{getD}
 use borrow.Author.Tests.{ne-eqb}
-use Rattle.layouts.specs.Categories.{Category, known, category, fieldAt}
-use Rattle.layouts.specs.Presence.{needsOf}
+use Rattle.octets.specs.Choice.{pick}
+use Rattle.layouts.specs.Categories.{Category, cat23, cat65, cat242, known, category, fieldAt}
+use Rattle.layouts.specs.Presence.{FieldNeed, needs23, needs65, needs242, needsOf}
 use Rattle.layouts.specs.Layouts.{kindOf}
 use Rattle.layouts.specs.Tables.{layout}
 use Rattle.layouts.specs.declared.category.Field.{Field}
@@ -72,3 +73,14 @@ module _ (n : ℕ) (h : NoneOf (Unit {0}) (23 ∷ 65 ∷ 242 ∷ []) n) where
 
   pub no-field : (f : ℕ) → record { 0 = Form.Spare; 1 = Kind.Spare } ≡ fieldAt (category n) f
   no-field f = rw no-fields (spare-field (record { cat = n; most = 0; fields = [] }) [] (refl, tt) f tt)
+
+-- what holds of the tables of the three categories, and of a category without field and need, holds of every one
+pub by-tables : (P : List FieldNeed → Category → Type 0) → P needs23 cat23 → P needs65 cat65 → P needs242 cat242
+    → ((n : ℕ) → P [] (record { cat = n; most = 0; fields = [] })) → (n : ℕ) → P (needsOf n) (category n)
+by-tables P a b c d n = go (eqb n 23) (eqb n 65) (eqb n 242)
+  where
+    go : (x y z : Bool) → P (pick x needs23 (pick y needs65 (pick z needs242 []))) (pick x cat23 (pick y cat65 (pick z cat242 (record { cat = n; most = 0; fields = [] }))))
+    go true y z = a
+    go false true z = b
+    go false false true = c
+    go false false false = d n

@@ -1,7 +1,10 @@
 -- `last_field`: seven fields to a specification octet, as the tables have it. Assumes nothing.
+use mathlib.Core.Path.{_≡_, refl}
+use Prim.Native.Nat.{_*_, _≤_}
 use native.Mathlib.Omega.{arith}
 use borrow.Author.Needs.{needs}
-use Rattle.blocks.proofs.WalkSteps.{table}
+use lib.ListN.{length}
+use Rattle.layouts.proofs.Categories.{by-tables}
 use Rattle.blocks.proofs.marks.last_field.Statement.{statement}
 use Rattle.blocks.proofs.marks.last_field.Tie as tie
 
@@ -13,5 +16,5 @@ last-field-spec =
     (λ c. search needs)
     (λ c. search needs)
     (λ c.
-    let t = table (c .before .args .cat) (c .before .pre) in
+    let t = by-tables (λ rs k. (k .most * 7 ≡ length (k .fields)) × (k .most ≤ 2)) (refl, omega arith) (refl, omega arith) (refl, omega arith) (λ n. (refl, omega arith)) (c .before .args .cat) in
     (omega arith, omega arith)))
