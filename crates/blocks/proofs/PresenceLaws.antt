@@ -1,49 +1,72 @@
--- A record has the items that it must have: its category's mandatory ones, and of category 65 those that its type tells. Assumes nothing.
-use mathlib.Core.Path.{_≡_, refl}
-use mathlib.Core.Bool.{Bool, true, false, _&&_, and-false}
-use mathlib.Core.List.{[], _∷_}
-use Prim.Native.Nat.{ℕ, _/_}
+-- A record has the items that it must have: its category's mandatory ones, and field by field what the rule of its type asks. Assumes nothing.
+use mathlib.Core.Path.{_≡_, refl, sym, ap, _∙_, subst}
+use mathlib.Core.Bool.{Bool, true, false, not, false≢true, Bool·not-not}
+use mathlib.Core.List.{List, [], _∷_}
+use Prim.Native.Nat.{ℕ, _+_, _-_, _≤_, _<_}
+use native.Mathlib.Omega.{arith}
+use borrow.Author.Tests.{eqb-true, eqb-false}
 use lib.Dec.{eqb}
-use lib.ListN.{getD}
-use borrow.Author.Tests.{ne-eqb}
-use Rattle.octets.specs.Choice.{pick, odd}
-use Rattle.layouts.specs.Categories.{fieldMarks}
-use Rattle.layouts.specs.Presence.{Need, M, X, byType, needsByType, needs23, needs242, needsOf, mandatory, met, meets}
-use Rattle.blocks.specs.Marks.{flagsOf, hasAll}
+use lib.ListN.{length, getD}
+use Rattle.octets.proofs.Cases.{test}
+use Rattle.layouts.specs.Categories.{category, fieldMarks}
+use Rattle.layouts.specs.Presence.{FieldNeed, needs23, needs65, needs242, needsOf, needAt, ruleAt, mandatory, met, meets}
+use Rattle.layouts.specs.declared.presence.Need.the-variants.{M}
+use Rattle.layouts.specs.declared.presence.Rule.{Rule}
+use Rattle.layouts.proofs.Categories.{by-tables}
+use Rattle.layouts.proofs.Rules.{MetAt, met-at, all-met, needs-apart, in-every-type}
+use Rattle.blocks.specs.Marks.{flagsOf, marked, hasAll}
+use Rattle.blocks.proofs.MarksLaws.{marked-at}
 
--- a need that is the same in every type
-any-type : (a b : Bool) (n : Need) → pick a n (pick b n n) ≡ n
-any-type true b n = refl
-any-type false true n = refl
-any-type false false n = refl
+-- where all needs are met the mandatory items are there
+has-mandatory : (t m n : ℕ) → meets (needsOf n) t (flagsOf 32 m) ≡ true → hasAll 32 (fieldMarks (mandatory (needsOf n))) m ≡ true
+unfolding flagsOf hasAll
+has-mandatory t m =
+    let is : (rs : List FieldNeed) → meets rs t (flagsOf 32 m) ≡ true → (f : ℕ) → MetAt t (flagsOf 32 m) rs f = λ rs h f. met-at t (flagsOf 32 m) rs f h in
+    by-tables (λ rs c. meets rs t (flagsOf 32 m) ≡ true → hasAll 32 (fieldMarks (mandatory rs)) m ≡ true)
+    (λ h. rw (is needs23 h 2, is needs23 h 4))
+    (λ h.
+    let e = in-every-type (M ∷ M ∷ M ∷ []) refl 0 t in
+    rw (rw e at (is needs65 h 1), rw e at (is needs65 h 2), rw e at (is needs65 h 3), rw e at (is needs65 h 4)))
+    (λ h. rw (is needs242 h 1, is needs242 h 2, is needs242 h 3))
+    (λ k h. refl)
 
--- the rows' order, and the mandatory ones first
-reorder : (a b c d x y : Bool) → (b && (a && (c && (x && (d && y))))) ≡ ((a && (b && (c && (d && true)))) && (x && y))
-reorder true true true true x y = refl
-reorder true true true false x y = and-false x
-reorder true true false d x y = refl
-reorder true false c d x y = refl
-reorder false b c d x y = and-false b
+-- Of a record of category n and type t with these marks
+module _ (n t m : ℕ) where
+  abbrev all : Bool
+  all = meets (needsOf n) t (flagsOf 32 m)
 
-module _ (t m : ℕ) where
-  -- category 65: its mandatory items, and those of the type
-  pub needs-65 : (n : ℕ) → n ≡ 65
-      → meets (needsOf n) t (flagsOf 32 m) ≡ (hasAll 32 (fieldMarks (mandatory (needsOf n))) m && meets needsByType t (flagsOf 32 m))
-  unfolding meets flagsOf hasAll
-  needs-65 n e =
-      let bs = flagsOf 32 m in
-      rw (e, any-type (eqb t 1) (eqb t 2) M)
-      (reorder (odd m) (odd (m / 2)) (odd (m / 2 / 2)) (odd (m / 2 / 2 / 2)) (met (byType 5 X M X .need t) (getD bs 4 false))
-      (meets (byType 6 M X X ∷ byType 7 X X M ∷ []) t bs))
+  -- a mandatory item is missing
+  pub lacks-one : {k : ℕ} → k ≡ fieldMarks (mandatory (needsOf n)) → {x : Bool} → x ≡ hasAll 32 k m → not x ≡ true → false ≡ all
+  lacks-one is tested h =
+      test all (λ e. absurd (false≢true (sym (ap not (tested ∙ ap (λ (k : ℕ). hasAll 32 k m) is ∙ has-mandatory t m n e)) ∙ h))) sym
 
-  other : (a b : Bool)
-      → meets (pick a needs23 (pick b needs242 [])) t (flagsOf 32 m)
-      ≡ hasAll 32 (fieldMarks (mandatory (pick a needs23 (pick b needs242 [])))) m
-  unfolding meets flagsOf hasAll
-  other true b = refl
-  other false true = refl
-  other false false = refl
+  abbrev MetIn : ℕ → Type 0
+  MetIn = MetAt t (flagsOf 32 m) (needsOf n)
 
-  -- the others: their mandatory items
-  pub needs-other : (n : ℕ) → (n ≡ 65 → ⊥) → meets (needsOf n) t (flagsOf 32 m) ≡ hasAll 32 (fieldMarks (mandatory (needsOf n))) m
-  needs-other n h = rw (ne-eqb n 65 h) (other (eqb n 23) (eqb n 242))
+  -- the fields before f are as the rules ask
+  pub record MetBefore (f : ℕ) : Type 0 where
+    pub from : 1 ≤ f
+    pub met : (g : ℕ) → 1 ≤ g → g < f → MetIn g
+
+  -- what the code tests of a field
+  module _ (f : ℕ) (l : 1 ≤ f) {r : Rule} (is : r ≡ ruleAt n t f) {b : Bool} (there : b ≡ marked m f) {x : Bool} (tested : x ≡ met (r .0) b) where
+    test-is : x ≡ met (needAt (needsOf n) t f) (getD (flagsOf 32 m) (f - 1) false)
+    unfolding ruleAt
+    test-is = tested ∙ (λ i. met (is i .0) ((there ∙ marked-at m f l) i))
+
+    pub unmet : not x ≡ true → false ≡ all
+    unmet h = test all (λ e. absurd (false≢true (sym (ap not (test-is ∙ met-at t (flagsOf 32 m) (needsOf n) f e)) ∙ h))) sym
+
+    pub met-more : not x ≡ false → MetBefore f → MetBefore (f + 1)
+    met-more h w = record {
+      from = omega arith;
+      met = λ g a b. test (eqb g f) (λ e. subst MetIn (sym (eqb-true g f e)) (sym test-is ∙ sym (Bool·not-not x) ∙ ap not h))
+          (λ e. w .met g a (omega (arith, eqb-false g f e)));
+    }
+
+  pub met-none : MetBefore 1
+  met-none = record { from = omega arith; met = λ g a b. absurd (omega arith) }
+
+  -- all fields of the category
+  pub met-all : (f : ℕ) → length (category n .fields) < f → MetBefore f → true ≡ all
+  met-all f l w = sym (all-met t (flagsOf 32 m) (length (category n .fields)) (needsOf n) (needs-apart n) (λ g a b. w .met g a (omega arith)))

@@ -1,24 +1,24 @@
 -- A record that has 65/040: where it stands, and that its toggle is bit 2 there. Assumes nothing.
 use mathlib.Core.Path.{_≡_, refl, sym, ap, _∙_, subst}
-use mathlib.Core.Bool.{Bool, true, false, false≢true, _&&_, not}
+use mathlib.Core.Bool.{Bool, true, false, false≢true, not, Bool·not-not}
 use mathlib.Core.List.{List, [], _∷_}
-use Prim.Native.Nat.{ℕ, _+_, _-_, _/_, _%_, _<_, _≤_}
+use Prim.Native.Nat.{ℕ, zero, suc, _+_, _-_, _/_, _%_, _<_, _≤_}
 use native.Mathlib.Omega.{arith}
 use borrow.Author.Tests.{eqb-true, eqb-false}
-use lib.Dec.{leb, ltb, eqb}
+use lib.Dec.{leb, ltb}
 use lib.ListN.{length, getD}
 use Rattle.octets.specs.Choice.{pick, odd}
 use Rattle.octets.specs.Numbers.{Octets}
-use Rattle.octets.proofs.Cases.{both}
 use Rattle.layouts.specs.Groups.{values, Group}
 use Rattle.layouts.specs.Formats.{got, andThen, done, ask, Trace}
 use Rattle.layouts.specs.Offsets.{runAt, traceAt}
 use Rattle.layouts.specs.Layouts.{format}
 use Rattle.layouts.specs.Tables.{layout}
-use Rattle.layouts.specs.Presence.{M, X, met, meets, needsOf}
+use Rattle.layouts.specs.Presence.{meets, needsOf}
 use Rattle.layouts.specs.Categories.{Category, category, known}
 use Rattle.layouts.specs.declared.form.Form.{Form}
 use Rattle.layouts.proofs.Parsed.{pick-no, through}
+use Rattle.layouts.proofs.Rules.{MetAt, met-at}
 use Rattle.items.specs.Typed.{val}
 use Rattle.items.proofs.Items.{number-one}
 use Rattle.blocks.specs.Specification.{flags}
@@ -72,29 +72,16 @@ two-end s len at gs p h =
 -- in a record of category 65 that has field 6 (040) there are fields 1 to 4 (010, 000, 015, 030), and field 5 (020) is not
 fields-before : (t : ℕ) (bs : List Bool) → meets (needsOf 65) t bs ≡ true → getD bs 5 false ≡ true
     → (getD bs 0 false ≡ true) × (getD bs 1 false ≡ true) × (getD bs 2 false ≡ true) × (getD bs 3 false ≡ true) × (getD bs 4 false ≡ false)
-unfolding meets
-fields-before t bs h six =
-    go (eqb t 1) (eqb t 2) (getD bs 0 false) (getD bs 1 false) (getD bs 2 false) (getD bs 3 false) (getD bs 4 false) (getD bs 5 false) (getD bs 6 false)
-    h six
+fields-before t bs h six = go t (λ f. met-at t bs (needsOf 65) f h)
   where
-    go : (x y a b c d e f g : Bool)
-        → (met (pick x M (pick y M M)) b && (met (pick x M (pick y M M)) a && (met (pick x M (pick y M M)) c && (met (pick x X (pick y M X)) e
-        && (met (pick x M (pick y M M)) d && (met (pick x M (pick y X X)) f && (met (pick x X (pick y X M)) g && true))))))) ≡ true
-        → f ≡ true → (a ≡ true) × (b ≡ true) × (c ≡ true) × (d ≡ true) × (e ≡ false)
-    go true y a b c d true f g h i = absurd (false≢true (both c _ (both a _ (both b _ h .1) .1) .1))
-    go true y a b c d false f g h i =
-        let (hb, h1) = both b _ h in
-        let (ha, h2) = both a _ h1 in
-        let (hc, h3) = both c _ h2 in
-        (ha, hb, hc, both d _ h3 .0, refl)
-    go false true a b c d e false g h i = absurd (false≢true i)
-    go false true a b c d e true g h i =
-        let h5 = both d _ (both e _ (both c _ (both a _ (both b _ h .1) .1) .1) .1) .1 in
-        absurd (false≢true h5)
-    go false false a b c d e false g h i = absurd (false≢true i)
-    go false false a b c d e true g h i =
-        let h5 = both d _ (both (not e) _ (both c _ (both a _ (both b _ h .1) .1) .1) .1) .1 in
-        absurd (false≢true h5)
+    -- 040 is there in type 1 alone
+    go : (t : ℕ) → ((f : ℕ) → MetAt t bs (needsOf 65) f)
+        → (getD bs 0 false ≡ true) × (getD bs 1 false ≡ true) × (getD bs 2 false ≡ true) × (getD bs 3 false ≡ true) × (getD bs 4 false ≡ false)
+    go (suc zero) is = (is 1, is 2, is 3, is 4, sym (Bool·not-not (getD bs 4 false)) ∙ ap not (is 5))
+    go zero is = absurd (false≢true (rw six at (is 6)))
+    go (suc (suc zero)) is = absurd (false≢true (rw six at (is 6)))
+    go (suc (suc (suc zero))) is = absurd (false≢true (rw six at (is 6)))
+    go (suc (suc (suc (suc t)))) is = absurd (false≢true (rw six at (is 6)))
 
 -- the toggle of 65/040 at an offset
 sdps-toggle : (s : List ℕ) (x : ℕ) → val (traceAt (format (layout Form.Sdps)) s x) 0 4 ≡ getD s x 0 / 2 % 2

@@ -1,10 +1,12 @@
 // Which items a record has, by its type.
 ghost use mathlib.Core.Path.{_≡_};
-ghost use Rattle.layouts.specs.Presence.{needsOf, needsByType, meets};
+ghost use Rattle.layouts.specs.Presence.{needsOf, met, meets};
 ghost use Rattle.blocks.specs.Marks.{flagsOf, hasAll};
 use crate::marks::is_marked;
-use layouts::category::Cat65;
+use crate::marks::last_field;
 use layouts::category::mandatory_of;
+use layouts::presence::Need;
+use layouts::presence::rule_of;
 
 // Every mark of the first is one of the second.
 fn has_all(mandatory: u32, marks: u32) -> bool
@@ -13,27 +15,34 @@ fn has_all(mandatory: u32, marks: u32) -> bool
     marks & mandatory == mandatory
 }
 
-// Of category 65: 040 exactly in type 1, 020 exactly in type 2, 050 exactly in the third.
-fn has_of_type(message_type: u8, marks: u32) -> bool
-    ensures { λ r. ⌜ r ≡ meets needsByType «message_type» (flagsOf 32 marks) ⌝ }
+// A field that is marked or not, against its need.
+fn is_met(need: Need, is_there: bool) -> bool
+    ensures { λ r. ⌜ r ≡ met need «is_there» ⌝ }
 {
-    let batch = is_marked(marks, Cat65::F020);
-    let sdps = is_marked(marks, Cat65::F040);
-    let report = is_marked(marks, Cat65::F050);
-    match message_type {
-        1 => !batch & sdps & !report,
-        2 => batch & !sdps & !report,
-        _ => !batch & !sdps & report,
+    match need {
+        Need::M => is_there,
+        Need::O => true,
+        Need::X => !is_there,
     }
 }
 
-// Whether a record of a type has the items that it must have, and none that it must not.
+// Whether a record of a type has the items that it must have, and none that it must not. One that lacks a mandatory item, as 000, without which it has
+// no type, is not looked at further; of any other each field is held to the rule of its type.
 pub fn is_present(cat: u8, message_type: u8, marks: u32) -> bool
     ensures { λ r. ⌜ r ≡ meets (needsOf cat) «message_type» (flagsOf 32 marks) ⌝ }
 {
-    let all = has_all(mandatory_of(cat), marks);
-    if cat == Cat65::CAT {
-        return all & has_of_type(message_type, marks);
+    if !has_all(mandatory_of(cat), marks) {
+        return false;
     }
-    all
+    let last = last_field(cat);
+    let mut f: usize = 1;
+    while f <= last {
+        let rule = rule_of(cat, message_type, f);
+        let need = rule.0;
+        if !is_met(need, is_marked(marks, f)) {
+            return false;
+        }
+        f += 1;
+    }
+    true
 }

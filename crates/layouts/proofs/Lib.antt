@@ -7,3 +7,4 @@ pub mod Alike
 pub mod Before
 pub mod KindEnds
 pub mod Categories
+pub mod Rules

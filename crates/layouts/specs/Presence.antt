@@ -5,69 +5,77 @@ use Prim.Native.Nat.{ℕ, _-_}
 use lib.Dec.{eqb}
 use lib.ListN.{getD}
 use Rattle.octets.specs.Choice.{pick}
+use Rattle.layouts.specs.Layouts.{kindOf}
+use Rattle.layouts.specs.Categories.{Category, category, layoutAt}
+use Rattle.layouts.specs.declared.presence.Need.{Need}
+use Rattle.layouts.specs.declared.presence.Need.the-variants.{M, O, X}
+use Rattle.layouts.specs.declared.presence.Rule.{Rule}
 
--- mandatory, optional, never present (000 §5.2.1)
-pub data Need : Type 0 where
-  M : Need
-  O : Need
-  X : Need
-
--- a field, and its need by the record's type
+-- a field, and its need by the record's type: M mandatory, O optional, X never present (000 §5.2.1)
 pub record FieldNeed : Type 0 where
   pub field : ℕ
   pub need : ℕ → Need
 
--- a row of the table: a field's need in the types 001, 002 and 003
-abbrev pub byType : ℕ → Need → Need → Need → FieldNeed
-byType f a b c = record { field = f; need = λ t. pick (eqb t 1) a (pick (eqb t 2) b c) }
+-- the need in a record without 000, which has no type: M where it is M in each type; what goes by the type is not there
+abbrev pub untyped : List Need → Need
+untyped [] = M
+untyped (M ∷ ns) = untyped ns
+untyped (O ∷ ns) = X
+untyped (X ∷ ns) = X
 
--- in every record
-abbrev pub always : ℕ → Need → FieldNeed
-always f n = record { field = f; need = λ t. n }
+-- a row of a table: an item's field, and its need in the types 001, 002, .. in turn
+abbrev pub row : ℕ → List Need → FieldNeed
+row f ns = record { field = f; need = λ t. getD (untyped ns ∷ ns) t (untyped ns) }
 
--- the table of 000 §5.2.1, a row for each item and a column for each type, by the fields of 000 §5.3: first the items that the types tell apart
-abbrev pub batchNeed : FieldNeed
-batchNeed = byType 5 X M X
+-- mandatory in every record
+abbrev pub always : ℕ → FieldNeed
+always f = record { field = f; need = λ t. M }
 
-abbrev pub sdpsNeed : FieldNeed
-sdpsNeed = byType 6 M X X
-
-abbrev pub reportNeed : FieldNeed
-reportNeed = byType 7 X X M
-
-abbrev pub needsByType : List FieldNeed
-needsByType = batchNeed ∷ sdpsNeed ∷ reportNeed ∷ []
-
+-- the table of 000 §5.2.1: a row for each item, by its field (000 §5.3), and a column for each type:
+-- 001 SDPS Status, 002 End of Batch, 003 Service Status Report
 abbrev pub needs65 : List FieldNeed
 needs65 =
-    byType 2 M M M  -- I065/000 Message Type
-    ∷ byType 1 M M M  -- I065/010 Data Source Identifier
-    ∷ byType 3 M M M  -- I065/015 Service Identification
-    ∷ batchNeed  -- I065/020 Batch Number
-    ∷ byType 4 M M M  -- I065/030 Time of Message
-    ∷ sdpsNeed  -- I065/040 SDPS configuration and status
-    ∷ reportNeed  -- I065/050 Service Status Report
-    ∷ []
+    --     001 002 003
+    row 2 (M ∷ M ∷ M ∷ []) ∷  -- I065/000 Message Type
+    row 1 (M ∷ M ∷ M ∷ []) ∷  -- I065/010 Data Source Identifier
+    row 3 (M ∷ M ∷ M ∷ []) ∷  -- I065/015 Service Identification
+    row 5 (X ∷ M ∷ X ∷ []) ∷  -- I065/020 Batch Number
+    row 4 (M ∷ M ∷ M ∷ []) ∷  -- I065/030 Time of Message
+    row 6 (M ∷ X ∷ X ∷ []) ∷  -- I065/040 SDPS configuration and status
+    row 7 (X ∷ X ∷ M ∷ []) ∷  -- I065/050 Service Status Report
+    []
 
 -- category 23: 000 and 070
 abbrev pub needs23 : List FieldNeed
 needs23 =
-    always 2 M  -- I023/000 Report Type
-    ∷ always 4 M  -- I023/070 Time of Day
-    ∷ []
+    always 2 ∷  -- I023/000 Report Type
+    always 4 ∷  -- I023/070 Time of Day
+    []
 
 -- category 242: its three items
 abbrev pub needs242 : List FieldNeed
 needs242 =
-    always 1 M  -- I242/010 Data Source Identifier
-    ∷ always 2 M  -- I242/140 Time of Day
-    ∷ always 3 M  -- I242/550 Version number(s) of CAT used
-    ∷ []
+    always 1 ∷  -- I242/010 Data Source Identifier
+    always 2 ∷  -- I242/140 Time of Day
+    always 3 ∷  -- I242/550 Version number(s) of CAT used
+    []
 
 abbrev pub needsOf : ℕ → List FieldNeed
 needsOf n = pick (eqb n 23) needs23 (pick (eqb n 65) needs65 (pick (eqb n 242) needs242 []))
 
--- the fields that every record has: mandatory in each of the types 001, 002 and 003
+-- the need of a field in a type; one without a row is free: RE and SP (01 "Presence"), and a spare field, whose mark got 5 before
+abbrev pub needAt : List FieldNeed → ℕ → ℕ → Need
+needAt [] t f = O
+needAt (r ∷ rs) t f = pick (eqb f (r .field)) (r .need t) (needAt rs t f)
+
+-- what a record of a type has at a field: its need, and its length as the category's table of fields has it
+abbrev pub ruleIn : List FieldNeed → Category → ℕ → ℕ → Rule
+ruleIn rs c t f = record { 0 = needAt rs t f; 1 = kindOf (layoutAt c f) }
+
+unfoldable pub ruleAt : ℕ → ℕ → ℕ → Rule
+ruleAt cat t f = ruleIn (needsOf cat) (category cat) t f
+
+-- the fields that every record has: those that even one without a type needs
 abbrev pub isM : Need → Bool
 isM M = true
 isM O = false
@@ -75,7 +83,7 @@ isM X = false
 
 abbrev pub mandatory : List FieldNeed → List ℕ
 mandatory [] = []
-mandatory (r ∷ rs) = pick (isM (r .need 1) && (isM (r .need 2) && isM (r .need 3))) (r .field ∷ mandatory rs) (mandatory rs)
+mandatory (r ∷ rs) = pick (isM (r .need 0)) (r .field ∷ mandatory rs) (mandatory rs)
 
 -- a field that is marked or not, against its need
 abbrev pub met : Need → Bool → Bool

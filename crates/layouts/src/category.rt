@@ -92,12 +92,12 @@ impl Cat65 {
     // The spare fields, 8 to 12, and those past the last.
     pub const UNUSED: u32 = 0xFFFF_CF80;
 
-    // The fields that go by the type: 020, 040 and 050.
-    pub const F020: usize = 5;
+    // The values of 000 (000 §5.2.1).
+    pub const SDPS_STATUS: u8 = 1;
 
-    pub const F040: usize = 6;
+    pub const END_OF_BATCH: u8 = 2;
 
-    pub const F050: usize = 7;
+    pub const SERVICE_STATUS_REPORT: u8 = 3;
 
     pub const I010: Field = Field(Form::Source, Kind::Fixed(2));
 
@@ -125,9 +125,9 @@ impl Cat65 {
             2 => Self::I000,
             3 => Self::I015,
             4 => Self::I030,
-            Self::F020 => Self::I020,
-            Self::F040 => Self::I040,
-            Self::F050 => Self::I050,
+            5 => Self::I020,
+            6 => Self::I040,
+            7 => Self::I050,
             13 => Self::RE,
             14 => Self::SP,
             _ => SPARE,

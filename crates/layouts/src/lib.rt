@@ -2,3 +2,4 @@
 pub mod category;
 pub mod ends;
 pub mod form;
+pub mod presence;
