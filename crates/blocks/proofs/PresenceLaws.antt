@@ -9,13 +9,19 @@ use lib.Dec.{eqb}
 use lib.ListN.{length, getD}
 use Rattle.octets.proofs.Cases.{test}
 use Rattle.layouts.specs.Categories.{category, fieldMarks}
-use Rattle.layouts.specs.Presence.{FieldNeed, needs23, needs65, needs242, needsOf, needAt, ruleAt, mandatory, met, meets}
+use Rattle.layouts.specs.Presence.{FieldNeed, needs23, types65, needs65, needs242, needsOf, needAt, ruleAt, mandatory, met, meets}
+use Rattle.layouts.specs.declared.presence.Need.{Need}
 use Rattle.layouts.specs.declared.presence.Need.the-variants.{M}
 use Rattle.layouts.specs.declared.presence.Rule.{Rule}
 use Rattle.layouts.proofs.Categories.{by-tables}
 use Rattle.layouts.proofs.Rules.{MetAt, met-at, all-met, needs-apart, in-every-type}
 use Rattle.blocks.specs.Marks.{flagsOf, marked, hasAll}
 use Rattle.blocks.proofs.MarksLaws.{marked-at}
+
+-- the need that a rule has is the table's
+pub need-is : (n t f : ℕ) {r : Rule} {k : Need} → r ≡ ruleAt n t f → r .0 ≡ k → (b : Bool) → met k b ≡ met (needAt (needsOf n) t f) b
+unfolding ruleAt
+need-is n t f is e b = λ i. met ((sym e ∙ ap (λ (r : Rule). r .0) is) i) b
 
 -- where all needs are met the mandatory items are there
 has-mandatory : (t m n : ℕ) → meets (needsOf n) t (flagsOf 32 m) ≡ true → hasAll 32 (fieldMarks (mandatory (needsOf n))) m ≡ true
@@ -25,7 +31,7 @@ has-mandatory t m =
     by-tables (λ rs c. meets rs t (flagsOf 32 m) ≡ true → hasAll 32 (fieldMarks (mandatory rs)) m ≡ true)
     (λ h. rw (is needs23 h 2, is needs23 h 4))
     (λ h.
-    let e = in-every-type (M ∷ M ∷ M ∷ []) refl 0 t in
+    let e = in-every-type types65 (M ∷ M ∷ M ∷ []) refl t in
     rw (rw e at (is needs65 h 1), rw e at (is needs65 h 2), rw e at (is needs65 h 3), rw e at (is needs65 h 4)))
     (λ h. rw (is needs242 h 1, is needs242 h 2, is needs242 h 3))
     (λ k h. refl)
@@ -49,10 +55,9 @@ module _ (n t m : ℕ) where
     pub met : (g : ℕ) → 1 ≤ g → g < f → MetIn g
 
   -- what the code tests of a field
-  module _ (f : ℕ) (l : 1 ≤ f) {r : Rule} (is : r ≡ ruleAt n t f) {b : Bool} (there : b ≡ marked m f) {x : Bool} (tested : x ≡ met (r .0) b) where
+  module _ (f : ℕ) (l : 1 ≤ f) {x : Bool} (tested : x ≡ met (needAt (needsOf n) t f) (marked m f)) where
     test-is : x ≡ met (needAt (needsOf n) t f) (getD (flagsOf 32 m) (f - 1) false)
-    unfolding ruleAt
-    test-is = tested ∙ (λ i. met (is i .0) ((there ∙ marked-at m f l) i))
+    test-is = tested ∙ ap (met (needAt (needsOf n) t f)) (marked-at m f l)
 
     pub unmet : not x ≡ true → false ≡ all
     unmet h = test all (λ e. absurd (false≢true (sym (ap not (test-is ∙ met-at t (flagsOf 32 m) (needsOf n) f e)) ∙ h))) sym

@@ -2,10 +2,10 @@
 use mathlib.Core.Path.{_≡_, refl, sym, ap, _∙_, subst}
 use mathlib.Core.Bool.{Bool, true, false, false≢true, not, Bool·not-not}
 use mathlib.Core.List.{List, [], _∷_}
-use Prim.Native.Nat.{ℕ, zero, suc, _+_, _-_, _/_, _%_, _<_, _≤_}
+use Prim.Native.Nat.{ℕ, _+_, _-_, _/_, _%_, _<_, _≤_}
 use native.Mathlib.Omega.{arith}
 use borrow.Author.Tests.{eqb-true, eqb-false}
-use lib.Dec.{leb, ltb}
+use lib.Dec.{leb, ltb, eqb}
 use lib.ListN.{length, getD}
 use Rattle.octets.specs.Choice.{pick, odd}
 use Rattle.octets.specs.Numbers.{Octets}
@@ -14,9 +14,10 @@ use Rattle.layouts.specs.Formats.{got, andThen, done, ask, Trace}
 use Rattle.layouts.specs.Offsets.{runAt, traceAt}
 use Rattle.layouts.specs.Layouts.{format}
 use Rattle.layouts.specs.Tables.{layout}
-use Rattle.layouts.specs.Presence.{meets, needsOf}
+use Rattle.layouts.specs.Presence.{met, meets, needsOf}
 use Rattle.layouts.specs.Categories.{Category, category, known}
 use Rattle.layouts.specs.declared.form.Form.{Form}
+use Rattle.layouts.specs.declared.presence.Need.the-variants.{M, X}
 use Rattle.layouts.proofs.Parsed.{pick-no, through}
 use Rattle.layouts.proofs.Rules.{MetAt, met-at}
 use Rattle.items.specs.Typed.{val}
@@ -72,16 +73,17 @@ two-end s len at gs p h =
 -- in a record of category 65 that has field 6 (040) there are fields 1 to 4 (010, 000, 015, 030), and field 5 (020) is not
 fields-before : (t : ℕ) (bs : List Bool) → meets (needsOf 65) t bs ≡ true → getD bs 5 false ≡ true
     → (getD bs 0 false ≡ true) × (getD bs 1 false ≡ true) × (getD bs 2 false ≡ true) × (getD bs 3 false ≡ true) × (getD bs 4 false ≡ false)
-fields-before t bs h six = go t (λ f. met-at t bs (needsOf 65) f h)
+fields-before t bs h six = go (eqb t 1) (eqb t 2) (eqb t 3) refl (λ f. met-at t bs (needsOf 65) f h) (met-at t bs (needsOf 65) 6 h)
   where
     -- 040 is there in type 1 alone
-    go : (t : ℕ) → ((f : ℕ) → MetAt t bs (needsOf 65) f)
+    go : (x y z : Bool) → eqb t 1 ≡ x → ((f : ℕ) → MetAt t bs (needsOf 65) f) → met (pick x M (pick y X (pick z X X))) (getD bs 5 false) ≡ true
         → (getD bs 0 false ≡ true) × (getD bs 1 false ≡ true) × (getD bs 2 false ≡ true) × (getD bs 3 false ≡ true) × (getD bs 4 false ≡ false)
-    go (suc zero) is = (is 1, is 2, is 3, is 4, sym (Bool·not-not (getD bs 4 false)) ∙ ap not (is 5))
-    go zero is = absurd (false≢true (rw six at (is 6)))
-    go (suc (suc zero)) is = absurd (false≢true (rw six at (is 6)))
-    go (suc (suc (suc zero))) is = absurd (false≢true (rw six at (is 6)))
-    go (suc (suc (suc (suc t)))) is = absurd (false≢true (rw six at (is 6)))
+    go true y z e is n =
+        let typed : (f : ℕ) → MetAt 1 bs (needsOf 65) f = rw (eqb-true t 1 e) at is in
+        (typed 1, typed 2, typed 3, typed 4, sym (Bool·not-not (getD bs 4 false)) ∙ ap not (typed 5))
+    go false true z e is n = absurd (false≢true (rw six at n))
+    go false false true e is n = absurd (false≢true (rw six at n))
+    go false false false e is n = absurd (false≢true (rw six at n))
 
 -- the toggle of 65/040 at an offset
 sdps-toggle : (s : List ℕ) (x : ℕ) → val (traceAt (format (layout Form.Sdps)) s x) 0 4 ≡ getD s x 0 / 2 % 2

@@ -20,6 +20,7 @@ use Rattle.layouts.specs.Layouts.{Layout, unused, fixed, extended, repeated, ex
 use Rattle.layouts.specs.Ends.{endOf, chainEnd}
 use Rattle.layouts.specs.Tables.{layout}
 use Rattle.layouts.specs.Categories.{Category, known, category, formAt}
+use Rattle.layouts.proofs.Categories.{seven-each}
 use Rattle.layouts.proofs.Parsed.{got-refused, pick-yes, through}
 use Rattle.layouts.proofs.Windows.{run-trace, run-within}
 use Rattle.layouts.specs.declared.ends.End.{End}
@@ -54,11 +55,12 @@ pub record Table (n : ℕ) (c : Category) : Type 0 where
   pub few : c .most ≤ 2
 
 pub table : (n : ℕ) → known n ≡ true → Table n (category n)
-table =
-    by-known (λ (n : ℕ). Table n (category n))
-    (record { cat = refl; long = refl; some = omega arith; few = omega arith })
-    (record { cat = refl; long = refl; some = omega arith; few = omega arith })
-    (record { cat = refl; long = refl; some = omega arith; few = omega arith })
+table n k = record {
+  cat = by-known (λ (n : ℕ). category n .cat ≡ n) refl refl refl n k;
+  long = seven-each n .0;
+  some = by-known (λ (n : ℕ). 1 ≤ category n .most) (omega arith) (omega arith) (omega arith) n k;
+  few = seven-each n .1;
+}
 
 -- the answer that has an end
 module _ {A : Type 0} where

@@ -1,7 +1,8 @@
 // Which items a record has, by its type.
 ghost use mathlib.Core.Path.{_≡_};
-ghost use Rattle.layouts.specs.Presence.{needsOf, met, meets};
-ghost use Rattle.blocks.specs.Marks.{flagsOf, hasAll};
+ghost use Prim.Native.Nat.{_≤_};
+ghost use Rattle.layouts.specs.Presence.{needsOf, needAt, met, meets};
+ghost use Rattle.blocks.specs.Marks.{flagsOf, marked, hasAll};
 use crate::marks::is_marked;
 use crate::marks::last_field;
 use layouts::category::mandatory_of;
@@ -15,14 +16,17 @@ fn has_all(mandatory: u32, marks: u32) -> bool
     marks & mandatory == mandatory
 }
 
-// A field that is marked or not, against its need.
-fn is_met(need: Need, is_there: bool) -> bool
-    ensures { λ r. ⌜ r ≡ met need «is_there» ⌝ }
+// Whether a field is as the rule of the record's type asks. Its mark is looked at only where that matters, which keeps the loop over the fields cheap.
+fn is_met(cat: u8, message_type: u8, marks: u32, f: usize) -> bool
+    requires { ⌜ (1 ≤ f) × (f ≤ 32) ⌝ }
+    ensures { λ r. ⌜ r ≡ met (needAt (needsOf cat) «message_type» f) (marked marks f) ⌝ }
 {
+    let rule = rule_of(cat, message_type, f);
+    let need = rule.0;
     match need {
-        Need::M => is_there,
+        Need::M => is_marked(marks, f),
         Need::O => true,
-        Need::X => !is_there,
+        Need::X => !is_marked(marks, f),
     }
 }
 
@@ -37,9 +41,7 @@ pub fn is_present(cat: u8, message_type: u8, marks: u32) -> bool
     let last = last_field(cat);
     let mut f: usize = 1;
     while f <= last {
-        let rule = rule_of(cat, message_type, f);
-        let need = rule.0;
-        if !is_met(need, is_marked(marks, f)) {
+        if !is_met(cat, message_type, marks, f) {
             return false;
         }
         f += 1;

@@ -2,10 +2,11 @@
 use mathlib.Core.Path.{_≡_, refl, sym, ap}
 use mathlib.Core.Bool.{Bool, true, false, _||_, true≢false}
 use mathlib.Core.List.{List, [], _∷_}
-use Prim.Native.Nat.{ℕ, zero, suc, _+_}
+use Prim.Native.Nat.{ℕ, zero, suc, _+_, _*_, _≤_}
 use native.Mathlib.Nat.{zero-add, add-zero, add-suc, suc-add}
+use native.Mathlib.Omega.{arith}
 use lib.Dec.{eqb}
-use lib.ListN.{getD}
+use lib.ListN.{length, getD}
 use borrow.Author.Tests.{ne-eqb}
 use Rattle.octets.specs.Choice.{pick}
 use Rattle.layouts.specs.Categories.{Category, cat23, cat65, cat242, known, category, fieldAt}
@@ -84,3 +85,9 @@ by-tables P a b c d n = go (eqb n 23) (eqb n 65) (eqb n 242)
     go false true z = b
     go false false true = c
     go false false false = d n
+
+-- seven fields to each specification octet, of which there are at most two
+pub seven-each : (n : ℕ) → (length (category n .fields) ≡ category n .most * 7) × (category n .most ≤ 2)
+seven-each =
+    by-tables (λ rs c. (length (c .fields) ≡ c .most * 7) × (c .most ≤ 2)) (refl, omega arith) (refl, omega arith) (refl, omega arith)
+    (λ n. (refl, omega arith))

@@ -1,15 +1,17 @@
 -- What a table of presence says field by field, and of the types and fields that a match names. Assumes nothing.
 use mathlib.Core.Path.{_≡_, refl, sym, ap, _∙_}
-use mathlib.Core.Bool.{Bool, true, false, _&&_, _||_, not, true≢false}
+use mathlib.Core.Bool.{Bool, true, false, _&&_, _||_, not, true≢false, false≢true}
 use mathlib.Core.List.{List, [], _∷_}
 use Prim.Native.Nat.{ℕ, zero, suc, _+_, _-_, _≤_, _<_}
 use native.Mathlib.Omega.{arith}
 use borrow.Author.Tests.{eqb-true, eqb-false, eq-eqb, ne-eqb, leb-true}
 use lib.Dec.{eqb, leb}
-use lib.ListN.{length, getD, replicate}
+use lib.ListN.{length, getD, replicate, List·getD-eq-default}
+use Rattle.octets.specs.Choice.{pick}
 use Rattle.octets.proofs.Cases.{both, choose, test, neither}
-use Rattle.layouts.specs.Categories.{category}
-use Rattle.layouts.specs.Presence.{FieldNeed, needAt, needsOf, ruleIn, ruleAt, untyped, row, isM, met, meets}
+use Rattle.layouts.specs.Layouts.{kindOf}
+use Rattle.layouts.specs.Categories.{category, layoutAt}
+use Rattle.layouts.specs.Presence.{FieldNeed, Row, inEach, below, untyped, table, needAt, needsOf, ruleIn, ruleAt, met, meets}
 use Rattle.layouts.specs.declared.ends.Kind.{Kind}
 use Rattle.layouts.specs.declared.form.Form.{Form}
 use Rattle.layouts.specs.declared.presence.Need.{Need}
@@ -62,17 +64,16 @@ module _ (t : ℕ) (bs : List Bool) where
       (λ e. rw e at (h f l m))) in
       rw (own, rest)
 
--- what each type asks for is asked for whatever the type
-in-each : (ns : List Need) → untyped ns ≡ M → (d : Need) → d ≡ M → (t : ℕ) → getD ns t d ≡ M
-in-each [] h d e t = e
-in-each (M ∷ ns) h d e zero = refl
-in-each (M ∷ ns) h d e (suc t) = in-each ns h d e t
-in-each (O ∷ ns) h d e t = absurd (true≢false (sym (ap isM h)))
-in-each (X ∷ ns) h d e t = absurd (true≢false (sym (ap isM h)))
+-- what is M in each type is M whatever the type
+each-below : (types : List ℕ) (ns : List Need) (d : Need) (t : ℕ) → inEach ns ≡ true → d ≡ M → below types ns d t ≡ M
+each-below [] ns d t h e = e
+each-below (k ∷ ks) [] d t h e = e
+each-below (k ∷ ks) (M ∷ ns) d t h e = choose (λ (n : Need). n ≡ M) (eqb t k) (λ x. refl) (λ x. each-below ks ns d t h e)
+each-below (k ∷ ks) (O ∷ ns) d t h e = absurd (false≢true h)
+each-below (k ∷ ks) (X ∷ ns) d t h e = absurd (false≢true h)
 
-pub in-every-type : (ns : List Need) → untyped ns ≡ M → (f t : ℕ) → row f ns .need t ≡ M
-in-every-type ns h f zero = h
-in-every-type ns h f (suc t) = in-each ns h (untyped ns) h t
+pub in-every-type : (types : List ℕ) (ns : List Need) → inEach ns ≡ true → (t : ℕ) → below types ns (untyped ns) t ≡ M
+in-every-type types ns h t = each-below types ns (untyped ns) t h (rw h)
 
 -- the rows of a category are of its fields
 pub needs-apart : (n : ℕ) → apart (length (category n .fields)) (needsOf n) ≡ true
@@ -109,28 +110,36 @@ none-named (suc n) a f h l =
 pub behind : (a n : ℕ) {f : ℕ} → NoneOf (Unit {0}) (named a n) f → a ≤ f → a + n ≤ f
 behind a n {f} h l = none-named n a f (none-has (Unit {0}) (named a n) f h .0) l
 
--- a type that category 65 has no column for is none
-no-column : (t : ℕ) → (t ≡ 1 → ⊥) → (t ≡ 2 → ⊥) → (t ≡ 3 → ⊥) → (f : ℕ) → ruleAt 65 0 f ≡ ruleAt 65 t f
+-- a type that is no heading is as good as none
+not-below : (types : List ℕ) (ns : List Need) (d : Need) (t : ℕ) → has types t ≡ false → below types ns d t ≡ d
+not-below [] ns d t h = refl
+not-below (k ∷ ks) [] d t h = refl
+not-below (k ∷ ks) (n ∷ ns) d t h =
+    let (x, y) = neither (eqb t k) (has ks t) h in
+    rw x (not-below ks ns d t y)
+
+no-heading : (types : List ℕ) (rs : List Row) (t u f : ℕ) → has types t ≡ false → has types u ≡ false
+    → needAt (table types rs) t f ≡ needAt (table types rs) u f
+no-heading types [] t u f h k = refl
+no-heading types (r ∷ rs) t u f h k =
+    let d = untyped (r .letters) in
+    let same : below types (r .letters) d t ≡ below types (r .letters) d u = not-below types (r .letters) d t h ∙ sym (not-below types (r .letters) d u k) in
+    λ i. pick (eqb f (r .item)) (same i) (no-heading types rs t u f h k i)
+
+-- an arm behind those that name the types
+pub arm-untyped : (cat : ℕ) (types : List ℕ) (rs : List Row) → needsOf cat ≡ table types rs → has types 0 ≡ false → (a n : ℕ) {r : Rule}
+    → rules cat 0 a n ≡ replicate n r → (t : ℕ) {f : ℕ} → NoneOf (Unit {0}) types t × (a ≤ f) × (f < a + n) → r ≡ ruleAt cat t f
 unfolding ruleAt
-no-column zero a b c f = refl
-no-column (suc zero) a b c f = absurd (a refl)
-no-column (suc (suc zero)) a b c f = absurd (b refl)
-no-column (suc (suc (suc zero))) a b c f = absurd (c refl)
-no-column (suc (suc (suc (suc t)))) a b c f = refl
-
-pub arm-untyped : (a n : ℕ) {r : Rule} → rules 65 0 a n ≡ replicate n r → {t f : ℕ} → (t ≡ 1 → ⊥) × (t ≡ 2 → ⊥) × (t ≡ 3 → ⊥) × (a ≤ f) × (f < a + n) → r ≡ ruleAt 65 t f
-arm-untyped a n h {t} {f} (x, y, z, l, m) = arm 65 0 a n h (refl, l, m) ∙ no-column t x y z f
-
-past-list : (l : List Form) (f : ℕ) → length l ≤ f → getD l f Form.Spare ≡ Form.Spare
-past-list [] f h = refl
-past-list (x ∷ l) zero h = absurd (omega arith)
-past-list (x ∷ l) (suc f) h = past-list l f (omega arith)
+arm-untyped cat types rs is zeroth a n {r} h t {f} (x, l, m) =
+    let same : needAt (table types rs) 0 f ≡ needAt (table types rs) t f = no-heading types rs 0 t f zeroth (none-has (Unit {0}) types t x .0) in
+    rule-among cat 0 n a f r h l m
+    ∙ (λ i. record { 0 = (ap (λ (ns : List FieldNeed). needAt ns 0 f) is ∙ same ∙ ap (λ (ns : List FieldNeed). needAt ns t f) (sym is)) i; 1 = kindOf (layoutAt (category cat) f) })
 
 past-rows : (n : ℕ) (rs : List FieldNeed) → apart n rs ≡ true → (t f : ℕ) → n < f → needAt rs t f ≡ O
 past-rows n [] a t f l = refl
 past-rows n (r ∷ rs) a t f l =
     let (in-n, others) = both (leb 1 (r .field) && leb (r .field) n) (not (hasRow (r .field) rs) && apart n rs) a in
-    let (low, high) = both (leb 1 (r .field)) (leb (r .field) n) in-n in
+    let high = both (leb 1 (r .field)) (leb (r .field) n) in-n .1 in
     rw (ne-eqb f (r .field) (λ e. omega (arith, leb-true (r .field) n high)))
     (past-rows n rs (both (not (hasRow (r .field) rs)) (apart n rs) others .1) t f l)
 
@@ -138,11 +147,7 @@ past-rows n (r ∷ rs) a t f l =
 pub past : (cat t f : ℕ) → length (category cat .fields) < f → record { 0 = O; 1 = Kind.Spare } ≡ ruleAt cat t f
 unfolding ruleAt
 past cat t f l =
-    rw (past-list (Form.Spare ∷ category cat .fields) f (omega arith), past-rows (length (category cat .fields)) (needsOf cat) (needs-apart cat) t f l)
-
--- the rule of a category whose CAT is m
-pub rule-at : (m n t f : ℕ) (r : Rule) → n ≡ m → r ≡ ruleAt m t f → r ≡ ruleAt n t f
-rule-at m n t f r e h = rw e h
+    rw (List·getD-eq-default (Form.Spare ∷ category cat .fields) Form.Spare {n = f} (omega arith), past-rows (length (category cat .fields)) (needsOf cat) (needs-apart cat) t f l)
 
 -- a category that no match names has no rule
 pub no-rule : (n : ℕ) → NoneOf (Unit {0}) (23 ∷ 65 ∷ 242 ∷ []) n → (t f : ℕ) → record { 0 = O; 1 = Kind.Spare } ≡ ruleAt n t f

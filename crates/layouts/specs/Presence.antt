@@ -16,25 +16,50 @@ pub record FieldNeed : Type 0 where
   pub field : ℕ
   pub need : ℕ → Need
 
--- the need in a record without 000, which has no type: M where it is M in each type; what goes by the type is not there
-abbrev pub untyped : List Need → Need
-untyped [] = M
-untyped (M ∷ ns) = untyped ns
-untyped (O ∷ ns) = X
-untyped (X ∷ ns) = X
+abbrev pub isM : Need → Bool
+isM M = true
+isM O = false
+isM X = false
 
--- a row of a table: an item's field, and its need in the types 001, 002, .. in turn
-abbrev pub row : ℕ → List Need → FieldNeed
-row f ns = record { field = f; need = λ t. getD (untyped ns ∷ ns) t (untyped ns) }
+-- M in each type
+abbrev pub inEach : List Need → Bool
+inEach [] = true
+inEach (n ∷ ns) = isM n && inEach ns
+
+-- the need below the heading t, and d where no heading is t
+abbrev pub below : List ℕ → List Need → Need → ℕ → Need
+below [] ns d t = d
+below (k ∷ ks) [] d t = d
+below (k ∷ ks) (n ∷ ns) d t = pick (eqb t k) n (below ks ns d t)
+
+-- the need in a record without 000, which has no type: what is M in each type has to be there, and nothing else
+abbrev pub untyped : List Need → Need
+untyped ns = pick (inEach ns) M X
+
+-- a row of a table: an item, by its field, and a letter for each type
+pub record Row : Type 0 where
+  pub item : ℕ
+  pub letters : List Need
+
+abbrev pub row : ℕ → List Need → Row
+row f ns = record { item = f; letters = ns }
+
+-- a table with types as headings
+abbrev pub table : List ℕ → List Row → List FieldNeed
+table types [] = []
+table types (r ∷ rs) = record { field = r .item; need = below types (r .letters) (untyped (r .letters)) } ∷ table types rs
 
 -- mandatory in every record
 abbrev pub always : ℕ → FieldNeed
 always f = record { field = f; need = λ t. M }
 
--- the table of 000 §5.2.1: a row for each item, by its field (000 §5.3), and a column for each type:
--- 001 SDPS Status, 002 End of Batch, 003 Service Status Report
-abbrev pub needs65 : List FieldNeed
-needs65 =
+-- category 65: the table of 000 §5.2.1; by its NOTE 2 the types are 001 SDPS Status, 002 End of Batch and 003 Service Status Report, and
+-- the fields are those of 000 §5.3
+abbrev pub types65 : List ℕ
+types65 = 1 ∷ 2 ∷ 3 ∷ []
+
+abbrev pub rows65 : List Row
+rows65 =
     --     001 002 003
     row 2 (M ∷ M ∷ M ∷ []) ∷  -- I065/000 Message Type
     row 1 (M ∷ M ∷ M ∷ []) ∷  -- I065/010 Data Source Identifier
@@ -44,6 +69,9 @@ needs65 =
     row 6 (M ∷ X ∷ X ∷ []) ∷  -- I065/040 SDPS configuration and status
     row 7 (X ∷ X ∷ M ∷ []) ∷  -- I065/050 Service Status Report
     []
+
+abbrev pub needs65 : List FieldNeed
+needs65 = table types65 rows65
 
 -- category 23: 000 and 070
 abbrev pub needs23 : List FieldNeed
@@ -63,7 +91,8 @@ needs242 =
 abbrev pub needsOf : ℕ → List FieldNeed
 needsOf n = pick (eqb n 23) needs23 (pick (eqb n 65) needs65 (pick (eqb n 242) needs242 []))
 
--- the need of a field in a type; one without a row is free: RE and SP (01 "Presence"), and a spare field, whose mark got 5 before
+-- the need of a field in a type; one without a row is free: RE and SP, what else category 23 has (01 "Presence"), and a spare field, whose mark got
+-- 5 before
 abbrev pub needAt : List FieldNeed → ℕ → ℕ → Need
 needAt [] t f = O
 needAt (r ∷ rs) t f = pick (eqb f (r .field)) (r .need t) (needAt rs t f)
@@ -76,11 +105,6 @@ unfoldable pub ruleAt : ℕ → ℕ → ℕ → Rule
 ruleAt cat t f = ruleIn (needsOf cat) (category cat) t f
 
 -- the fields that every record has: those that even one without a type needs
-abbrev pub isM : Need → Bool
-isM M = true
-isM O = false
-isM X = false
-
 abbrev pub mandatory : List FieldNeed → List ℕ
 mandatory [] = []
 mandatory (r ∷ rs) = pick (isM (r .need 0)) (r .field ∷ mandatory rs) (mandatory rs)

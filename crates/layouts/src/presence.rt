@@ -27,17 +27,17 @@ impl Cat23 {
         ensures { λ r. ⌜ ((t : ℕ) → r ≡ ruleAt 23 t f) ⌝ }
     {
         match f {
-            1 => Rule(Need::O, Kind::Fixed(2)),
-            2 => Rule(Need::M, Kind::Fixed(1)),
-            3 => Rule(Need::O, Kind::Fixed(1)),
-            4 => Rule(Need::M, Kind::Fixed(3)),
-            5 => Rule(Need::O, Kind::Extended(1, 1)),
-            6 => Rule(Need::O, Kind::Extended(2, 1)),
-            7 => Rule(Need::O, Kind::Fixed(1)),
-            8 => Rule(Need::O, Kind::Extended(1, 0)),
-            9 => Rule(Need::O, Kind::Repeated(6)),
+            1 => Rule(Need::O, Kind::Fixed(2)), // 010
+            2 => Rule(Need::M, Kind::Fixed(1)), // 000
+            3 => Rule(Need::O, Kind::Fixed(1)), // 015
+            4 => Rule(Need::M, Kind::Fixed(3)), // 070
+            5 => Rule(Need::O, Kind::Extended(1, 1)), // 100
+            6 => Rule(Need::O, Kind::Extended(2, 1)), // 101
+            7 => Rule(Need::O, Kind::Fixed(1)), // 200
+            8 => Rule(Need::O, Kind::Extended(1, 0)), // 110
+            9 => Rule(Need::O, Kind::Repeated(6)), // 120
             10..=12 => SPARE,
-            13..=14 => Rule(Need::O, Kind::Explicit),
+            13..=14 => Rule(Need::O, Kind::Explicit), // RE, SP
             _ => SPARE,
         }
     }
@@ -64,8 +64,8 @@ impl Cat65 {
                 1 => Rule(Need::M, Kind::Fixed(2)),
                 2..=3 => Rule(Need::M, Kind::Fixed(1)),
                 4 => Rule(Need::M, Kind::Fixed(3)),
-                5 => Rule(Need::M, Kind::Fixed(1)),
-                6..=7 => Rule(Need::X, Kind::Fixed(1)),
+                5 => Rule(Need::M, Kind::Fixed(1)), // 020
+                6..=7 => Rule(Need::X, Kind::Fixed(1)), // 040, 050
                 8..=12 => SPARE,
                 13..=14 => Rule(Need::O, Kind::Explicit),
                 _ => SPARE,
@@ -74,8 +74,8 @@ impl Cat65 {
                 1 => Rule(Need::M, Kind::Fixed(2)),
                 2..=3 => Rule(Need::M, Kind::Fixed(1)),
                 4 => Rule(Need::M, Kind::Fixed(3)),
-                5..=6 => Rule(Need::X, Kind::Fixed(1)),
-                7 => Rule(Need::M, Kind::Fixed(1)),
+                5..=6 => Rule(Need::X, Kind::Fixed(1)), // 020, 040
+                7 => Rule(Need::M, Kind::Fixed(1)), // 050
                 8..=12 => SPARE,
                 13..=14 => Rule(Need::O, Kind::Explicit),
                 _ => SPARE,
@@ -84,7 +84,7 @@ impl Cat65 {
                 1 => Rule(Need::M, Kind::Fixed(2)),
                 2..=3 => Rule(Need::M, Kind::Fixed(1)),
                 4 => Rule(Need::M, Kind::Fixed(3)),
-                5..=7 => Rule(Need::X, Kind::Fixed(1)),
+                5..=7 => Rule(Need::X, Kind::Fixed(1)), // 020, 040, 050
                 8..=12 => SPARE,
                 13..=14 => Rule(Need::O, Kind::Explicit),
                 _ => SPARE,
@@ -99,11 +99,11 @@ impl Cat242 {
         ensures { λ r. ⌜ ((t : ℕ) → r ≡ ruleAt 242 t f) ⌝ }
     {
         match f {
-            1 => Rule(Need::M, Kind::Fixed(2)),
-            2 => Rule(Need::M, Kind::Fixed(3)),
-            3 => Rule(Need::M, Kind::Repeated(3)),
+            1 => Rule(Need::M, Kind::Fixed(2)), // 010
+            2 => Rule(Need::M, Kind::Fixed(3)), // 140
+            3 => Rule(Need::M, Kind::Repeated(3)), // 550
             4..=5 => SPARE,
-            6..=7 => Rule(Need::O, Kind::Explicit),
+            6..=7 => Rule(Need::O, Kind::Explicit), // SP, RE
             _ => SPARE,
         }
     }

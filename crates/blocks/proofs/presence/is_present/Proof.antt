@@ -23,14 +23,11 @@ is-present-spec =
     laws.lacks-one (a .cat) (a .message-type) (a .marks) (c .before .before .mandatory-of .ensures) (c .before .has-all .ensures) (c .if1 .taken))
     (λ c κs. search needs)
     (λ c. laws.met-none _ _ _)
-    (λ c κs. search needs)
-    (λ c κs. let w = c .before .before .loop .inv in let e = c .before .before .before .last-field .ensures in (w .from, omega arith))
-    (λ c κs. search needs)
-    (λ c. laws.unmet _ _ _ _ (c .before .before .before .before .before .loop .inv .from)
-    (c .before .before .before .rule-of .ensures) (c .before .before .is-marked .ensures) (c .before .is-met .ensures) (c .if2 .taken))
-    (λ c. let e = c .before .before .before .before .before .before .last-field .ensures in omega arith)
+    (λ c κs. let w = c .before .loop .inv in let e = c .before .before .last-field .ensures in (w .from, omega arith))
+    (λ c.
+    let a = c .before .before .before .before .before .before .before .before .args in
+    laws.unmet (a .cat) (a .message-type) (a .marks) _ (c .before .before .before .loop .inv .from) (c .before .is-met .ensures) (c .if2 .taken))
+    (λ c. let e = c .before .before .before .before .last-field .ensures in omega arith)
     (λ c. omega arith)
-    (λ c. let w = c .before .before .before .before .before .loop .inv in
-    laws.met-more _ _ _ _ (w .from)
-    (c .before .before .before .rule-of .ensures) (c .before .before .is-marked .ensures) (c .before .is-met .ensures) (c .if2 .left) w)
+    (λ c. let w = c .before .before .before .loop .inv in laws.met-more _ _ _ _ (w .from) (c .before .is-met .ensures) (c .if2 .left) w)
     (λ c. let e = c .before .before .last-field .ensures .0 in laws.met-all _ _ _ _ (omega arith) (c .before .loop .inv)))

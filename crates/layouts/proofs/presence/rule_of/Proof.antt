@@ -1,5 +1,5 @@
 -- `rule_of` by the categories' tables. Assumes nothing.
-use Rattle.layouts.proofs.Rules.{rule-at, no-rule}
+use Rattle.layouts.proofs.Rules.{no-rule}
 use Rattle.layouts.proofs.presence.rule_of.Statement.{statement}
 use Rattle.layouts.proofs.presence.rule_of.Tie as tie
 
@@ -10,7 +10,7 @@ rule-of-spec =
     (λ c κs. tt)
     (λ c κs. tt)
     (λ c κs. tt)
-    (λ c. rule-at 23 _ _ _ _ (c .before .match .keys1) (c .rule .ensures _))
-    (λ c. rule-at 65 _ _ _ _ (c .before .match .keys2) (c .rule2 .ensures))
-    (λ c. rule-at 242 _ _ _ _ (c .before .match .keys3) (c .rule3 .ensures _))
+    (λ c. rw (c .before .match .keys1) (c .rule .ensures _))
+    (λ c. rw (c .before .match .keys2) (c .rule2 .ensures))
+    (λ c. rw (c .before .match .keys3) (c .rule3 .ensures _))
     (λ c. no-rule _ (c .match .rest) _ _))

@@ -1,6 +1,7 @@
 -- `Cat65::rule` is the category's tables, of needs and of fields. Assumes nothing.
 use mathlib.Core.Path.{refl}
 use borrow.Author.Needs.{needs}
+use Rattle.layouts.specs.Presence.{types65, rows65}
 use Rattle.layouts.proofs.Rules.{arm, arm-untyped, past}
 use Rattle.layouts.proofs.category.Cat65.rule.Statement.{statement}
 use Rattle.layouts.proofs.category.Cat65.rule.Tie as tie
@@ -37,11 +38,11 @@ rule-spec =
     (λ c. arm 65 3 13 2 refl (search needs))
     (λ c. arm 65 3 0 1 refl (search needs))
     (λ c. past 65 _ _ (search needs))
-    (λ c. arm-untyped 1 1 refl (search needs))
-    (λ c. arm-untyped 4 1 refl (search needs))
-    (λ c. arm-untyped 2 2 refl (search needs))
-    (λ c. arm-untyped 5 3 refl (search needs))
-    (λ c. arm-untyped 8 5 refl (search needs))
-    (λ c. arm-untyped 13 2 refl (search needs))
-    (λ c. arm-untyped 0 1 refl (search needs))
+    (λ c. arm-untyped 65 types65 rows65 refl refl 1 1 refl _ (search needs))
+    (λ c. arm-untyped 65 types65 rows65 refl refl 4 1 refl _ (search needs))
+    (λ c. arm-untyped 65 types65 rows65 refl refl 2 2 refl _ (search needs))
+    (λ c. arm-untyped 65 types65 rows65 refl refl 5 3 refl _ (search needs))
+    (λ c. arm-untyped 65 types65 rows65 refl refl 8 5 refl _ (search needs))
+    (λ c. arm-untyped 65 types65 rows65 refl refl 13 2 refl _ (search needs))
+    (λ c. arm-untyped 65 types65 rows65 refl refl 0 1 refl _ (search needs))
     (λ c. past 65 _ _ (search needs)))
