@@ -52,7 +52,7 @@ module _ (n t m : ℕ) where
   -- the fields before f are as the rules ask
   pub record MetBefore (f : ℕ) : Type 0 where
     pub from : 1 ≤ f
-    pub met : (g : ℕ) → 1 ≤ g → g < f → MetIn g
+    pub all-before : (g : ℕ) → 1 ≤ g → g < f → MetIn g
 
   -- what the code tests of a field
   module _ (f : ℕ) (l : 1 ≤ f) {x : Bool} (tested : x ≡ met (needAt (needsOf n) t f) (marked m f)) where
@@ -65,13 +65,13 @@ module _ (n t m : ℕ) where
     pub met-more : not x ≡ false → MetBefore f → MetBefore (f + 1)
     met-more h w = record {
       from = omega arith;
-      met = λ g a b. test (eqb g f) (λ e. subst MetIn (sym (eqb-true g f e)) (sym test-is ∙ sym (Bool·not-not x) ∙ ap not h))
-          (λ e. w .met g a (omega (arith, eqb-false g f e)));
+      all-before = λ g a b. test (eqb g f) (λ e. subst MetIn (sym (eqb-true g f e)) (sym test-is ∙ sym (Bool·not-not x) ∙ ap not h))
+          (λ e. w .all-before g a (omega (arith, eqb-false g f e)));
     }
 
   pub met-none : MetBefore 1
-  met-none = record { from = omega arith; met = λ g a b. absurd (omega arith) }
+  met-none = record { from = omega arith; all-before = λ g a b. absurd (omega arith) }
 
   -- all fields of the category
   pub met-all : (f : ℕ) → length (category n .fields) < f → MetBefore f → true ≡ all
-  met-all f l w = sym (all-met t (flagsOf 32 m) (length (category n .fields)) (needsOf n) (needs-apart n) (λ g a b. w .met g a (omega arith)))
+  met-all f l w = sym (all-met t (flagsOf 32 m) (length (category n .fields)) (needsOf n) (needs-apart n) (λ g a b. w .all-before g a (omega arith)))

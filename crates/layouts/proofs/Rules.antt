@@ -1,4 +1,4 @@
--- What a table of presence says field by field, and of the types and fields that a match names. Assumes nothing.
+-- What a table of presence says field by field, and what an arm of a match on type and field has to show. Assumes nothing.
 use mathlib.Core.Path.{_≡_, refl, sym, ap, _∙_}
 use mathlib.Core.Bool.{Bool, true, false, _&&_, _||_, not, true≢false, false≢true}
 use mathlib.Core.List.{List, [], _∷_}
@@ -11,7 +11,7 @@ use Rattle.octets.specs.Choice.{pick}
 use Rattle.octets.proofs.Cases.{both, choose, test, neither}
 use Rattle.layouts.specs.Layouts.{kindOf}
 use Rattle.layouts.specs.Categories.{category, layoutAt}
-use Rattle.layouts.specs.Presence.{FieldNeed, Row, inEach, below, untyped, table, needAt, needsOf, ruleIn, ruleAt, met, meets}
+use Rattle.layouts.specs.Presence.{FieldNeed, Row, inEach, below, untyped, byType, needAt, needsOf, ruleIn, ruleAt, met, meets}
 use Rattle.layouts.specs.declared.ends.Kind.{Kind}
 use Rattle.layouts.specs.declared.form.Form.{Form}
 use Rattle.layouts.specs.declared.presence.Need.{Need}
@@ -96,7 +96,7 @@ pub arm : (cat type a n : ℕ) {r : Rule} → rules cat type a n ≡ replicate n
 unfolding ruleAt
 arm cat type a n {r} h {t} {f} (e, l, m) = rw e (rule-among cat type n a f r h l m)
 
--- a field that is none of the n that single arms name, from a on, stands behind them
+-- n fields from a on, each with an arm of its own
 abbrev named : ℕ → ℕ → List ℕ
 named a zero = []
 named a (suc n) = a ∷ named (suc a) n
@@ -107,6 +107,7 @@ none-named (suc n) a f h l =
     let (x, y) = neither (eqb f a) (has (named (suc a) n) f) h in
     omega (arith, none-named n (suc a) f y (omega (arith, eqb-false f a x)))
 
+-- a field from a on that is none of them stands behind them
 pub behind : (a n : ℕ) {f : ℕ} → NoneOf (Unit {0}) (named a n) f → a ≤ f → a + n ≤ f
 behind a n {f} h l = none-named n a f (none-has (Unit {0}) (named a n) f h .0) l
 
@@ -119,19 +120,19 @@ not-below (k ∷ ks) (n ∷ ns) d t h =
     rw x (not-below ks ns d t y)
 
 no-heading : (types : List ℕ) (rs : List Row) (t u f : ℕ) → has types t ≡ false → has types u ≡ false
-    → needAt (table types rs) t f ≡ needAt (table types rs) u f
+    → needAt (byType types rs) t f ≡ needAt (byType types rs) u f
 no-heading types [] t u f h k = refl
 no-heading types (r ∷ rs) t u f h k =
     let d = untyped (r .letters) in
     let same : below types (r .letters) d t ≡ below types (r .letters) d u = not-below types (r .letters) d t h ∙ sym (not-below types (r .letters) d u k) in
-    λ i. pick (eqb f (r .item)) (same i) (no-heading types rs t u f h k i)
+    λ i. pick (eqb f (r .field)) (same i) (no-heading types rs t u f h k i)
 
 -- an arm behind those that name the types
-pub arm-untyped : (cat : ℕ) (types : List ℕ) (rs : List Row) → needsOf cat ≡ table types rs → has types 0 ≡ false → (a n : ℕ) {r : Rule}
+pub arm-untyped : (cat : ℕ) (types : List ℕ) (rs : List Row) → needsOf cat ≡ byType types rs → has types 0 ≡ false → (a n : ℕ) {r : Rule}
     → rules cat 0 a n ≡ replicate n r → (t : ℕ) {f : ℕ} → NoneOf (Unit {0}) types t × (a ≤ f) × (f < a + n) → r ≡ ruleAt cat t f
 unfolding ruleAt
 arm-untyped cat types rs is zeroth a n {r} h t {f} (x, l, m) =
-    let same : needAt (table types rs) 0 f ≡ needAt (table types rs) t f = no-heading types rs 0 t f zeroth (none-has (Unit {0}) types t x .0) in
+    let same : needAt (byType types rs) 0 f ≡ needAt (byType types rs) t f = no-heading types rs 0 t f zeroth (none-has (Unit {0}) types t x .0) in
     rule-among cat 0 n a f r h l m
     ∙ (λ i. record { 0 = (ap (λ (ns : List FieldNeed). needAt ns 0 f) is ∙ same ∙ ap (λ (ns : List FieldNeed). needAt ns t f) (sym is)) i; 1 = kindOf (layoutAt (category cat) f) })
 
@@ -149,7 +150,7 @@ unfolding ruleAt
 past cat t f l =
     rw (List·getD-eq-default (Form.Spare ∷ category cat .fields) Form.Spare {n = f} (omega arith), past-rows (length (category cat .fields)) (needsOf cat) (needs-apart cat) t f l)
 
--- a category that no match names has no rule
+-- of a category that no match names every field is spare
 pub no-rule : (n : ℕ) → NoneOf (Unit {0}) (23 ∷ 65 ∷ 242 ∷ []) n → (t f : ℕ) → record { 0 = O; 1 = Kind.Spare } ≡ ruleAt n t f
 unfolding ruleAt
 no-rule n h t f = λ i. record { 0 = needAt (sym (no-needs n h) i) t f; 1 = no-field n h f i .1 }

@@ -26,35 +26,35 @@ abbrev pub inEach : List Need → Bool
 inEach [] = true
 inEach (n ∷ ns) = isM n && inEach ns
 
--- the need below the heading t, and d where no heading is t
+-- the need below the heading t, and d where no heading is t; a row has as many letters as there are headings
 abbrev pub below : List ℕ → List Need → Need → ℕ → Need
 below [] ns d t = d
 below (k ∷ ks) [] d t = d
 below (k ∷ ks) (n ∷ ns) d t = pick (eqb t k) n (below ks ns d t)
 
--- the need in a record without 000, which has no type: what is M in each type has to be there, and nothing else
+-- the need in a record without 000, which has no type (0): what is M in each type has to be there, and nothing else of the table
 abbrev pub untyped : List Need → Need
 untyped ns = pick (inEach ns) M X
 
 -- a row of a table: an item, by its field, and a letter for each type
 pub record Row : Type 0 where
-  pub item : ℕ
+  pub field : ℕ
   pub letters : List Need
 
 abbrev pub row : ℕ → List Need → Row
-row f ns = record { item = f; letters = ns }
+row f ns = record { field = f; letters = ns }
 
 -- a table with types as headings
-abbrev pub table : List ℕ → List Row → List FieldNeed
-table types [] = []
-table types (r ∷ rs) = record { field = r .item; need = below types (r .letters) (untyped (r .letters)) } ∷ table types rs
+abbrev pub byType : List ℕ → List Row → List FieldNeed
+byType types [] = []
+byType types (r ∷ rs) = record { field = r .field; need = below types (r .letters) (untyped (r .letters)) } ∷ byType types rs
 
 -- mandatory in every record
 abbrev pub always : ℕ → FieldNeed
 always f = record { field = f; need = λ t. M }
 
--- category 65: the table of 000 §5.2.1; by its NOTE 2 the types are 001 SDPS Status, 002 End of Batch and 003 Service Status Report, and
--- the fields are those of 000 §5.3
+-- category 65: the table of 000 §5.2.1. Its NOTE 2 names the types: 001 SDPS Status, 002 End of Batch, 003 Service Status Report (the heading
+-- prints "003 Broadcast Service..."). The fields are those of 000 §5.3
 abbrev pub types65 : List ℕ
 types65 = 1 ∷ 2 ∷ 3 ∷ []
 
@@ -71,7 +71,7 @@ rows65 =
     []
 
 abbrev pub needs65 : List FieldNeed
-needs65 = table types65 rows65
+needs65 = byType types65 rows65
 
 -- category 23: 000 and 070
 abbrev pub needs23 : List FieldNeed

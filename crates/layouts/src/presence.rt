@@ -1,5 +1,5 @@
 // What a record of each type has at a field: whether it must, may or must not be there, and how long it is (01 "Presence"). The walk goes by the
-// fields' constants, as it passes the items before the type is known.
+// fields' constants, as there is no type before item 000, which may be missing.
 ghost use mathlib.Core.Path.{_≡_};
 ghost use Prim.Native.Nat.{ℕ};
 ghost use Rattle.layouts.specs.Presence.{ruleAt};
@@ -44,7 +44,7 @@ impl Cat23 {
 }
 
 impl Cat65 {
-    // The table of 000 §5.2.1, type by type; a record without 000 has no type, and the last row.
+    // The table of 000 §5.2.1, type by type. The last row is for no type: a record without 000.
     fn rule(message_type: u8, f: usize) -> Rule
         ensures { λ r. ⌜ r ≡ ruleAt 65 «message_type» f ⌝ }
     {
