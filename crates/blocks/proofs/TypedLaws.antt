@@ -3,6 +3,7 @@
 use mathlib.Core.Path.{_≡_, refl, sym, ap, _∙_}
 use mathlib.Core.Bool.{Bool, true, false, false≢true}
 use mathlib.Core.List.{List, [], _∷_}
+use mathlib.Core.Logic.{_⊎_, inl, inr}
 use Prim.Native.Nat.{ℕ, zero, suc, _+_, _*_, _-_, _<_, _≤_}
 use native.Mathlib.Nat.{zero-add, add-zero, zero-mul, suc-mul, div-one}
 use native.Mathlib.Omega.{arith}
@@ -13,7 +14,7 @@ use Rattle.octets.specs.Choice.{pick}
 use Rattle.octets.specs.Numbers.{Octets, number}
 use Rattle.octets.specs.Refusals.{noCount}
 use Rattle.layouts.specs.Groups.{values, Group}
-use Rattle.layouts.specs.Formats.{got, Format, done, stop, Trace}
+use Rattle.layouts.specs.Formats.{got, Format, done, stop, Trace, fitsIn}
 use Rattle.layouts.specs.Offsets.{runAt, traceAt, groupsAt}
 use Rattle.layouts.specs.Layouts.{octet, times, counted, format, kindOf}
 use Rattle.layouts.specs.Ends.{kindEnd, endOf}
@@ -37,13 +38,13 @@ use Rattle.blocks.specs.declared.record.Record.{Record}
 use Rattle.blocks.proofs.AtEnd.{end-value, end-place}
 use Rattle.blocks.proofs.MarksLaws.{flags-32, flags-long, formats-more, mark-more, specification-marked}
 use Rattle.blocks.proofs.FormLaws.{field-form}
-use Rattle.blocks.proofs.WalkSteps.{item-run, table}
+use Rattle.blocks.proofs.WalkSteps.{item-run, item-fits, table}
 use Rattle.blocks.proofs.ItemStarts.{first-start, formats-at, formats-few, items-there, items-end}
 use Rattle.blocks.proofs.ReadSteps.{record-parts}
 
 -- An item of a record: it was read where it starts, inside the octets; or it is not there, and is looked for at their end
 data Held (s : List ℕ) (len : ℕ) (f : Format) (start : ℕ) (tr : Trace) (from : ℕ) : Type 0 where
-  here : (q : ℕ) → start ≡ from → from < length s → runAt s len f from ≡ got tr q → Held s len f start tr from
+  here : (q : ℕ) → start ≡ from → from < length s → runAt s len f from ≡ got tr q → fitsIn f tr ≡ true → Held s len f start tr from
   none : start ≡ length s → tr ≡ [] → Held s len f start tr from
 
 -- group j of n from an offset
@@ -58,14 +59,19 @@ groups-at s (suc n) g at (suc j) l =
 module _ (s : List ℕ) (len : ℕ) where
   -- either way its values are those at its start
   held-value : (f : Format) (start : ℕ) (tr : Trace) (from : ℕ) → Held s len f start tr from → (j i : ℕ) → val (traceAt f s start) j i ≡ val tr j i
-  held-value f start tr from (here q e l h) j i = rw (e, ← run-trace s len f from tr q h)
+  held-value f start tr from (here q e l h w) j i = rw (e, ← run-trace s len f from tr q h)
   held-value f start tr from (none e z) j i = rw (e, z, end-value s f j i)
+
+  -- and fit, or it is not there
+  held-fits : (f : Format) (start : ℕ) (tr : Trace) (from : ℕ) → Held s len f start tr from → (tr ≡ []) ⊎ (fitsIn f tr ≡ true)
+  held-fits f start tr from (here q e l h w) = inr w
+  held-fits f start tr from (none e z) = inl z
 
   -- and its entries or content are where its octets have them
   held-place : (f : Format) (e : ℕ) (g : Group) (start : ℕ) (tr : Trace) (from : ℕ) → f ≡ counted e g → Held s len f start tr from
       → (d : ℕ) → placeAt s start d ≡ placeIn from d tr
   unfolding counted traceAt values number
-  held-place f e g start tr from is (here q z l h) d =
+  held-place f e g start tr from is (here q z l h w) d =
       rw (z, lt-leb (length s) from l, run-trace s len f from tr q h, is, add-zero, div-one, zero-add)
   held-place f e g start tr from is (none z n) d = rw (z, n) (end-place s d)
 
@@ -73,7 +79,7 @@ module _ (s : List ℕ) (len : ℕ) where
   held-within : len ≤ length s → (f : Format) (g : Group) (start : ℕ) (tr : Trace) (from : ℕ) → f ≡ counted 0 g → Held s len f start tr from
       → placeIn from 0 tr .at + placeIn from 0 tr .count * g .wide ≤ len
   held-within fit f g start [] from is w = omega (arith, zero-mul (g .wide))
-  held-within fit f g start (v ∷ tr) from is (here q z l h) = counted-read s len fit 0 g from (v ∷ tr) q (rw is at h) .1
+  held-within fit f g start (v ∷ tr) from is (here q z l h w) = counted-read s len fit 0 g from (v ∷ tr) q (rw is at h) .1
   held-within fit f g start (v ∷ tr) from is (none z n) = absurd (let z : _≡_ {A = ℕ} 0 1 = cc in omega arith)
 
   -- behind a count stand so many groups
@@ -90,7 +96,7 @@ module _ (s : List ℕ) (len : ℕ) where
       → values (g .parts) (number (g .wide) s (placeIn from 0 tr .at + n * g .wide)) ≡ getD tr (suc n) []
   held-entry fit f g start [] from is w n l = absurd (omega arith)
   held-entry fit f g start (v ∷ tr) from is (none z e) n l = absurd (let z : _≡_ {A = ℕ} 0 1 = cc in omega arith)
-  held-entry fit f g start (v ∷ tr) from is (here q z i h) n l =
+  held-entry fit f g start (v ∷ tr) from is (here q z i h w) n l =
       let some = counted-read s len fit 0 g from (v ∷ tr) q (rw is at h) .0 in
       let e = counted-trace g from v tr (run-trace s len (counted 0 g) from (v ∷ tr) q (rw is at h)) in
       rw (e, lt-leb (getD v 0 0) 0 some) (rw (times-trace (getD v 0 0 - 0) g s (from + 1)) (sym (groups-at s (getD v 0 0 - 0) g (from + 1) n l)))
@@ -124,6 +130,10 @@ module _ (s : List ℕ) (len : ℕ) (c : Category) (gs : List ℕ) (p : ℕ) (tr
   there : (n : ℕ) → runAt s len (getD (layoutOf c gs) n done) (start n) ≡ got (getD trs n []) (start (suc n))
   there n = item-run s len _ (start n) (start (suc n)) (getD trs n []) (items-there s len (layoutOf c gs) p q trs read n)
 
+  -- and its values fit
+  fits-there : (n : ℕ) → fitsIn (getD (layoutOf c gs) n done) (getD trs n []) ≡ true
+  fits-there n = item-fits s len _ (start n) (start (suc n)) (getD trs n []) (items-there s len (layoutOf c gs) p q trs read n)
+
   -- the item of field n + 1, by whether it is marked
   abbrev pub Stands : ℕ → Bool → Type 0
   Stands n true = runAt s len (format (layoutAt c (suc n))) (start n) ≡ got (getD trs n []) (start (suc n))
@@ -137,6 +147,11 @@ module _ (s : List ℕ) (len : ℕ) (c : Category) (gs : List ℕ) (p : ℕ) (tr
           → runAt s len (getD (layoutOf c gs) n done) (start n) ≡ got (getD trs n []) (start (suc n)) → Stands n b
       go true e h = rw e at h
       go false e h = let h' : got [] (start n) ≡ got (getD trs n []) (start (suc n)) = rw e at h in (cc, cc)
+
+  marked-fits : (n : ℕ) → getD (flags gs) n false ≡ true → fitsIn (format (layoutAt c (suc n))) (getD trs n []) ≡ true
+  unfolding layoutOf
+  marked-fits n e =
+      rw (formats-at (flags gs) (c .fields) n (λ e. omega (arith, mark-inside (flags gs) n e)), e) at (fits-there n)
 
   -- so no item starts past the block's end
   start-within : (n : ℕ) → start n ≤ len
@@ -159,13 +174,15 @@ module _ (s : List ℕ) (len : ℕ) (c : Category) (gs : List ℕ) (p : ℕ) (tr
   held f zero e = none refl refl
   held f (suc n) e =
       let one : suc n - 1 ≡ n = omega arith in
-      rw (mark-is n, one) (go (getD (flags gs) n false) (stands n))
+      rw (mark-is n, one) (go (getD (flags gs) n false) (stands n) (marked-fits n))
     where
-      go : (b : Bool) → Stands n b → Held s len (format (layout f)) (pick b (start n) (length s)) (getD trs n []) (start n)
-      go true h =
+      go : (b : Bool) → Stands n b → (b ≡ true → fitsIn (format (layoutAt c (suc n))) (getD trs n []) ≡ true)
+          → Held s len (format (layout f)) (pick b (start n) (length s)) (getD trs n []) (start n)
+      go true h w =
           let room = end-room s len (getD (c .fields) n Form.Spare) (start n) (start (suc n)) (ends n h) (start-within n) in
-          here (start (suc n)) refl (omega arith) (rw (field-form (c .fields) f n e) at h)
-      go false h = none refl (h .0)
+          let same = field-form (c .fields) f n e in
+          here (start (suc n)) refl (omega arith) (rw same at h) (rw same at (w refl))
+      go false h w = none refl (h .0)
 
 -- records with the same values and places are the same
 typed-same : (cat marks : ℕ) (v w : Form → Trace) (p q : Form → ℕ → Place) → ((f : Form) (j i : ℕ) → val (v f) j i ≡ val (w f) j i)
@@ -244,6 +261,11 @@ module _ (s : List ℕ) (len cat at : ℕ) (o : Octets s) (fit : len ≤ length 
   form-values r q h f =
       let w = taken r q h in
       (found r (w .behind) f, held-value s len (format (layout f)) _ _ _ (w .items f))
+
+  -- They fit, or the item is not there.
+  pub form-fits : (r : Rec) (q : ℕ) → recordAt s len (category cat) at ≡ got r q → (f : Form) → let tr = valuesFor (category cat) r f in
+      (tr ≡ []) ⊎ (fitsIn (format (layout f)) tr ≡ true)
+  form-fits r q h f = held-fits s len _ _ _ _ (taken r q h .items f)
 
   -- The entries of a record that was read lie within the block.
   pub entries-within : (r : Rec) (q : ℕ) → recordAt s len (category cat) at ≡ got r q

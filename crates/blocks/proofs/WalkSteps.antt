@@ -79,6 +79,14 @@ module _ (s : List ℕ) (len : ℕ) where
       let w = through (runAt s len f at) h in
       w .2 ∙ pick-yes (fitsIn f (w .0)) _ _ (w .3) .1
 
+  pub item-fits : (f : Format) (at q : ℕ) (tr : Trace) → itemAt s len f at ≡ got tr q → fitsIn f tr ≡ true
+  unfolding itemAt
+  item-fits f at q tr h =
+      let w = through (runAt s len f at) h in
+      let (fit, same) = pick-yes (fitsIn f (w .0)) _ _ (w .3) in
+      let e : w .0 ≡ tr = cc in
+      rw e at fit
+
   -- an item ends where it begins or behind, and within the block; so do items one after the other
   pub item-within : (f : Format) (at q : ℕ) → at ≤ len → At q ≡ endOf (itemAt s len f at) → (at ≤ q) × (q ≤ len)
   item-within f at q l h =

@@ -6,10 +6,12 @@ use lib.Dec.{eqb}
 use Rattle.octets.specs.Choice.{pick}
 use Rattle.octets.specs.Refusals.{notStatistics}
 use Rattle.layouts.specs.Categories.{cat23}
+use Rattle.layouts.specs.Tables.{latest}
 use Rattle.items.specs.Typed.{counterOf}
 use Rattle.items.specs.declared.typed.Place.{Place}
 use Rattle.items.specs.declared.typed.Service.{Service}
 use Rattle.items.specs.declared.typed.Source.{Source}
+use Rattle.items.specs.declared.typed.TimeOfDay.{TimeOfDay}
 use Rattle.blocks.specs.Marks.{marked}
 use Rattle.blocks.specs.Typed.{absent}
 use Rattle.blocks.specs.Steps.{entryGroupOf, entryValues}
@@ -27,17 +29,22 @@ abbrev pub isStatistics : Record → Bool
 isStatistics t = isReport (t .category) (t .«message_type») (t .marks)
 
 -- its numbers: the octet of 015 has SID in bits 8/5 and STYP in bits 4/1
-abbrev pub numbersOf : Source → Service → Place → Statistics
-numbersOf source service entries = record {
+abbrev pub numbersOf : Source → Service → TimeOfDay → Place → Statistics
+numbersOf source service time entries = record {
   sac = source .sac;
   sic = source .sic;
   service = service .sid * 16 + service .styp;
+  time = time .0;
   at = entries .at;
   count = entries .count;
 }
 
+-- the latest time that a report has
+abbrev pub latestTime : ℕ
+latestTime = latest
+
 abbrev pub statisticsOf : Record → Statistics
-statisticsOf t = numbersOf (t .source) (t .service) (t .entries)
+statisticsOf t = numbersOf (t .source) (t .service) (t .time) (t .entries)
 
 -- entry k of 23/120, of those that lie from an offset: TYPE, REF, count
 abbrev pub reportEntry : List ℕ → ℕ → ℕ → Entry

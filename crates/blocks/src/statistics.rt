@@ -17,17 +17,21 @@ use items::item::octet_at;
 use items::item::place_at;
 use items::item::service_at;
 use items::item::source_at;
+use items::item::time_at;
+use items::typed::LATEST;
 use items::typed::Place;
 use items::typed::Service;
 use items::typed::Source;
+use items::typed::TimeOfDay;
 use layouts::category::Cat23;
 use layouts::form::Form;
 
-// The source, the octet of 23/015, the offset of the first entry of 23/120 and how many there are.
+// The source, the octet of 23/015, the time, the offset of the first entry of 23/120 and how many there are.
 pub struct Statistics {
     pub sac: u8,
     pub sic: u8,
     pub service: u8,
+    pub time: u32,
     pub at: usize,
     pub count: usize,
 }
@@ -45,8 +49,10 @@ pub struct Entry {
     pub count: u32,
 }
 
-// The category that statistics reports are of.
+// The category that statistics reports are of, and the latest time that one has.
 pub const CATEGORY: u8 = Cat23::CAT;
+
+pub const LATEST_TIME: u32 = LATEST;
 
 // Whether a record is a statistics report: its category, its type, and the marks of 010, 015 and 120.
 fn is_report(cat: u8, message_type: u8, marks: u32) -> bool
@@ -67,14 +73,15 @@ pub fn is_statistics(record: Record) -> bool
 }
 
 // The numbers of a report, of its items: SID and STYP have four bits.
-fn numbers_of(source: Source, service: Service, entries: Place) -> Statistics
+fn numbers_of(source: Source, service: Service, time: TimeOfDay, entries: Place) -> Statistics
     requires { ⌜ (service .sid < 16) × (service .styp < 16) ⌝ }
-    ensures { λ r. ⌜ r ≡ numbersOf source service entries ⌝ }
+    ensures { λ r. ⌜ r ≡ numbersOf source service time entries ⌝ }
 {
     Statistics {
         sac: source.sac,
         sic: source.sic,
         service: service.sid * 16 + service.styp,
+        time: time.0,
         at: entries.at,
         count: entries.count,
     }
@@ -87,8 +94,9 @@ pub fn statistics_of(record: Record) -> Statistics
 {
     let source = record.source;
     let service = record.service;
+    let time = record.time;
     let entries = record.entries;
-    numbers_of(source, service, entries)
+    numbers_of(source, service, time, entries)
 }
 
 // Entry k of those that lie from an offset. Only for the next layer: it lies in the slice.
@@ -118,6 +126,7 @@ pub fn see(s: &[u8], len: usize, at: usize) -> Seen
     }
     let source = source_at(s, start_of(items, Form::Source));
     let service = service_at(s, start_of(items, Form::Service));
+    let time = time_at(s, start_of(items, Form::Time));
     let entries = place_at(s, start_of(items, Form::Statistics), 0);
-    Seen::Report(numbers_of(source, service, entries), starts.end)
+    Seen::Report(numbers_of(source, service, time, entries), starts.end)
 }

@@ -17,7 +17,7 @@ use Rattle.rows.specs.Rows.{rowOf, lifeOf, addUp}
 use Rattle.rows.specs.Posting.{refused, entries, names, answers, after, ofKey, tally, accepted}
 use Rattle.rows.specs.Order.{times, upto, answersInOrder}
 use Rattle.rows.specs.Order as rows
-use Rattle.rows.proofs.Numbers.{map-same}
+use Rattle.rows.proofs.Numbers.{map-same, map-twice}
 use Rattle.rows.proofs.Theorems.{adding-key, any-order, row-rule, own-order as reports-order}
 use Rattle.ledger.specs.Ledgers.{answer, rowsOf, cellsOf, keepsRules, Held}
 use Rattle.ledger.specs.Posts.{postOf}
@@ -58,10 +58,6 @@ ran l end (x ∷ xs) (n ∷ ns) k h =
     }
 
 -- Another order of a run is one of its reports
-
-map-twice : {A B : Type 0} (f : A → B) (g : ℕ → A) (l : List ℕ) → map f (map g l) ≡ map (λ i. f (g i)) l
-map-twice f g [] = refl
-map-twice f g (i ∷ l) = ap (λ t. f (g i) ∷ t) (map-twice f g l)
 
 at-place : (xs : List Sent) (i : ℕ) → i < length xs → rows.report (map report xs) i ≡ report (getD xs i nothing)
 at-place [] i h = absurd (omega arith)

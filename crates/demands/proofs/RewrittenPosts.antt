@@ -25,12 +25,13 @@ use Rattle.blocks.specs.Records.{Rec}
 use Rattle.blocks.specs.Blocks.{Block, wrong, all, recordsAt, blockOf, headed}
 use Rattle.blocks.specs.Alike.{RecordsAlikeAt}
 use Rattle.blocks.specs.Steps.{entryValues, entryIn, entryOf}
-use Rattle.blocks.specs.Statistics.{isStatistics, statisticsOf}
+use Rattle.blocks.specs.Statistics.{isStatistics, statisticsOf, reportEntry}
 use Rattle.blocks.specs.Walks.{answerOf, readOf}
 use Rattle.blocks.specs.Meaning.{itemIn}
 use Rattle.blocks.specs.Typed.{has}
 use Rattle.blocks.specs.declared.header.Head.{Head}
 use Rattle.blocks.specs.declared.record.Record.{Record}
+use Rattle.blocks.specs.declared.statistics.Entry.{Entry as Read}
 use Rattle.blocks.specs.declared.walk.Reading.{Reading}
 use Rattle.blocks.specs.declared.cursor.Step.{Step}
 use Rattle.blocks.specs.declared.cursor.Found.{Found}
@@ -42,7 +43,7 @@ use Rattle.writing.specs.Same.{Same}
 use Rattle.writing.proofs.ReadBackTheorems.{none-same}
 use Rattle.rows.specs.Posting as posting
 use Rattle.ledger.specs.Posts.{postOf}
-use Rattle.ledger.specs.Reports.{firstKey, entryAt, entriesFrom, entriesOf, reportIn, stepAt, reportOf}
+use Rattle.ledger.specs.Reports.{entryOf as made, entriesFrom, entriesOf, reportIn, stepAt, reportOf}
 use Rattle.ledger.specs.declared.Answer.{Answer}
 use Rattle.ledger.specs.declared.Ledger.{Ledger}
 use Rattle.ledger.proofs.ReportLaws.{at-more, report-other, report-counts, report-refused, report-stopped, report-taken}
@@ -85,9 +86,9 @@ module _ (s x : List ℕ) (t u : Record) (same : Same s t x u) (back : Same x u 
       none : has t (entriesForm (t .category)) ≡ false → u .entries .count ≡ t .entries .count
       none h = none-same s t x u same h ∙ sym (none-same x u s t back (rw (same .category, same .marks) h))
 
-  -- so the entries of one, where the other's numbers name them
-  named-same : entriesFrom x (firstKey (statisticsOf t)) (t .time .0) (u .entries .at) (t .entries .count) 0 ≡ entriesOf x u
-  named-same = rw (source-same, service-same, time-same, count-same)
+  -- so of both a counter makes the same entry
+  made-same : (c : Read) → made (statisticsOf t) c ≡ made (statisticsOf u) c
+  made-same c = rw (source-same, service-same, time-same)
 
 -- The record at a start of each
 module _ (s x : List ℕ) (at next at' next' : ℕ) (w : Twins s x at next at' next') where
@@ -116,14 +117,15 @@ module _ (s x : List ℕ) (at next at' next' : ℕ) (w : Twins s x at next at' n
       = a ∙ entry-same j ∙ sym b in
       cc
 
-  entries-same : t .category ≡ 23 → (first time n k : ℕ) → k + n ≤ t .entries .count
-      → entriesFrom s first time (t .entries .at) n k ≡ entriesFrom x first time (u .entries .at) n k
+  entries-same : t .category ≡ 23 → (n k : ℕ) → k + n ≤ t .entries .count
+      → entriesFrom s (statisticsOf t) n k ≡ entriesFrom x (statisticsOf u) n k
   unfolding entriesFrom
-  entries-same e first time zero k l = refl
-  entries-same e first time (suc n) k l =
-      let one : entryAt s first time (t .entries .at) k ≡ entryAt x first time (u .entries .at) k
-      = ap (λ (c : Counter). record { key = first + c .typ; time = time; reference = c .reference; count = c .count }) (counter-same e k (omega arith)) in
-      rw (one, entries-same e first time n (suc k) (omega arith))
+  entries-same e zero k l = refl
+  entries-same e (suc n) k l =
+      let read : reportEntry s (t .entries .at) k ≡ reportEntry x (u .entries .at) k
+      = ap (λ (c : Counter). record { typ = c .typ; reference = c .reference; count = c .count }) (counter-same e k (omega arith)) in
+      let one = ap (made (statisticsOf t)) read ∙ made-same s x t u (w .same) (w .back) (reportEntry x (u .entries .at) k) in
+      λ i. one i ∷ entries-same e n (suc k) (omega arith) i
 
   -- is the same report
   report-twins : reportIn s t ≡ reportIn x u
@@ -135,8 +137,8 @@ module _ (s x : List ℕ) (at next at' next' : ℕ) (w : Twins s x at next at' n
       counts : isStatistics t ≡ true → reportIn s t ≡ reportIn x u
       counts h =
           let all : entriesOf s t ≡ entriesOf x u
-          = entries-same (of-23 t h) (firstKey (statisticsOf t)) (t .time .0) (t .entries .count) 0 (omega arith)
-          ∙ named-same s x t u (w .same) (w .back) in
+          = entries-same (of-23 t h) (t .entries .count) 0 (omega arith)
+          ∙ ap (λ n. entriesFrom x (statisticsOf u) n 0) (sym (count-same s x t u (w .same) (w .back))) in
           sym (report-counts s t h (statisticsOf t) refl) ∙ ap posting.counts all ∙ report-counts x u (is-t ∙ h) (statisticsOf u) refl
 
       other : isStatistics t ≡ false → reportIn s t ≡ reportIn x u

@@ -206,11 +206,11 @@ module _ (s : List ℕ) (len n : ℕ) (o : Octets s) (h : readOf s ≡ Reading.A
         lies-there : Lies s (f .one)
         lies-there = lies s at (f .one) (record { at = f .next }) o (sym (f .taken))
 
-        pub report-asks : Kept l × InOctets s (r .at) (r .count)
+        pub report-asks : Kept l × InOctets s r
         report-asks = (w .kept, entries-lie s (f .one) (first-report .0) r (first-report .1) lies-there)
 
         -- the others, once it is
-        pub posting-report : (a : ℕ) (m : List ℕ) → ((time : ℕ) → answer a m ≡ postedTo l (counts (entriesAt s time r)))
+        pub posting-report : (a : ℕ) (m : List ℕ) → answer a m ≡ postedTo l (counts (entriesAt s r))
             → (to : Totals) → to ≡ answeredOne t a → Posting s len l₀ t₀ m to next
         posting-report a m posted to counted =
             let p = post-statistics l (w .kept) s (f .one) (first-report .0) r (first-report .1) (answer a m) posted in

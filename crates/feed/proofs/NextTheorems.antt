@@ -16,6 +16,7 @@ use Rattle.blocks.specs.Statistics.{statisticsOf}
 use Rattle.blocks.specs.Steps.{stepOf}
 use Rattle.blocks.specs.Walks.{readOf}
 use Rattle.blocks.specs.declared.record.Record.{Record}
+use Rattle.blocks.specs.declared.statistics.Statistics.{Statistics}
 use Rattle.blocks.specs.declared.cursor.Step.{Step}
 use Rattle.blocks.specs.declared.cursor.Step.the-variants as step
 use Rattle.blocks.specs.declared.walk.Reading.{Reading}
@@ -141,18 +142,17 @@ next-more s t over o x e n =
 
 -- Reports of records whose entries lie in the octets
 module _ (s t : List ℕ) where
-  entries-more : (first time at n k : ℕ) → at + (k + n) * 6 ≤ length s → entriesFrom (s ++ t) first time at n k ≡ entriesFrom s first time at n k
+  entries-more : (r : Statistics) (n k : ℕ) → r .at + (k + n) * 6 ≤ length s → entriesFrom (s ++ t) r n k ≡ entriesFrom s r n k
   unfolding entriesFrom
-  entries-more first time at zero k l = refl
-  entries-more first time at (suc n) k l =
-      rw (number-more s t 6 (at + k * 6) (omega arith), entries-more first time at n (suc k) (omega arith))
+  entries-more r zero k l = refl
+  entries-more r (suc n) k l = rw (number-more s t 6 (r .at + k * 6) (omega arith), entries-more r n (suc k) (omega arith))
 
   report-more : (r : Record) → Lies s r → reportIn (s ++ t) r ≡ reportIn s r
   unfolding reportIn
   report-more r w =
       test (isStatistics r)
       (λ e. let l = entries-lie s r e (statisticsOf r) refl w in
-      rw e (ap counts (entries-more _ (r .time .0) (r .entries .at) (r .entries .count) 0 (omega arith))))
+      rw e (ap counts (entries-more (statisticsOf r) (r .entries .count) 0 (omega arith))))
       (λ e. rw e)
 
   module _ (o : Octets s) (len : ℕ) (w : Whole s len) where

@@ -13,16 +13,18 @@ use borrow.Author.Count.{below-more}
 use borrow.Author.Tests.{lt-leb, leb-false, eqb-true, eqb-false}
 use Rattle.octets.proofs.Cases.{test}
 use Rattle.blocks.specs.Statistics.{reportEntry}
+use Rattle.blocks.specs.declared.statistics.Entry.{Entry as Counter}
+use Rattle.blocks.specs.declared.statistics.Statistics.{Statistics}
 use Rattle.blocks.proofs.SmallLaws.{type-small, count-small}
 use Rattle.rows.specs.Rows.{Row, Entry, adds, addUp, rowOf, has, lifeOf, orNew}
 use Rattle.rows.specs.Posting.{newKeys, rowsFor, addEntry, passes, Sorted}
 use Rattle.rows.proofs.Rows.{sorted-add, row-own, row-other}
 use Rattle.rows.proofs.Theorems.{adding-key}
 use Rattle.ledger.specs.Ledgers.{rowIn, countOf, rowsOf, putRow}
-use Rattle.ledger.specs.Reports.{entryAt, entriesFrom}
-use Rattle.ledger.specs.Steps.{Kept, KeyPlace, RowAt, Noted, Known, entry}
+use Rattle.ledger.specs.Reports.{firstKey, entryOf, entriesFrom, entriesAt}
+use Rattle.ledger.specs.Steps.{Kept, KeyPlace, RowAt, Noted, Known}
 use Rattle.ledger.proofs.CellLaws.{rows-many, kept-rising}
-use Rattle.ledger.proofs.EntryLaws.{Reads}
+use Rattle.ledger.proofs.EntryLaws.{Nth}
 use Rattle.ledger.proofs.LoopSteps.{AddLoop, add-none, add-low, add-more}
 use Rattle.ledger.proofs.PlaceLaws.{put-stays, at-row, row-adds, own-life}
 
@@ -44,43 +46,45 @@ raises rows e s k =
     (λ t. rw (← (eqb-true (e .key) k t), row-own addUp adding-key e rows s) (added-life (e .key) (rowOf rows (e .key)) e))
     (λ f. rw (row-other addUp adding-key e rows k (eqb-false (e .key) k f)) (omega arith))
 
-module _ (s : List ℕ) (first time at : ℕ) where
+module _ (s : List ℕ) (r : Statistics) where
   -- where each key has a row there is no new one
-  none-new : (rows : List Row) (n k : ℕ) → ((i : ℕ) → i < k + n → has (rowOf rows (first + reportEntry s at i .typ)) ≡ true)
-      → newKeys rows (entriesFrom s first time at n k) ≡ []
+  none-new : (rows : List Row) (n k : ℕ) → ((i : ℕ) → i < k + n → has (rowOf rows (firstKey r + reportEntry s (r .at) i .typ)) ≡ true)
+      → newKeys rows (entriesFrom s r n k) ≡ []
   unfolding newKeys entriesFrom
   none-new rows zero k h = refl
   none-new rows (suc n) k h = rw (h k (omega arith)) (none-new rows n (suc k) (λ i l. h i (omega arith)))
 
   -- where each life count has room for so many counts none passes
   none-passes : (rows : List Row) (n k : ℕ) → Sorted rows
-      → ((i : ℕ) → i < k + n → lifeOf (rowOf rows (first + reportEntry s at i .typ)) + n * 2 ^ 32 ≤ 2 ^ 64)
-      → passes addUp rows (entriesFrom s first time at n k) ≡ false
+      → ((i : ℕ) → i < k + n → lifeOf (rowOf rows (firstKey r + reportEntry s (r .at) i .typ)) + n * 2 ^ 32 ≤ 2 ^ 64)
+      → passes addUp rows (entriesFrom s r n k) ≡ false
   unfolding passes entriesFrom
   none-passes rows zero k o h = refl
   none-passes rows (suc n) k o h =
-      let e = entryAt s first time at k in
-      rw (lt-leb (2 ^ 64) (lifeOf (rowOf (addEntry addUp rows e) (e .key)))
-      (omega (arith, raises rows e o (e .key), h k (omega arith), count-small s at k)))
+      let e = entryOf r (reportEntry s (r .at) k) in
+      let few = count-small s (r .at) k in
+      rw (lt-leb (2 ^ 64) (lifeOf (rowOf (addEntry addUp rows e) (e .key))) (omega (arith, raises rows e o (e .key), h k (omega arith), few)))
       (none-passes (addEntry addUp rows e) n (suc k) (sorted-add addUp adding-key e rows o)
-      (λ i l. omega (arith, raises rows e o (first + reportEntry s at i .typ), h i (omega arith), count-small s at k)))
+      (λ i l. omega (arith, raises rows e o (firstKey r + reportEntry s (r .at) i .typ), h i (omega arith), few)))
 
 -- Entries with known rows may be added up
 
-module _ (cells : List ℕ) (g : Kept cells) (s : List ℕ) (first at n : ℕ) (places : List ℕ) (w : Known cells s first at n places) where
-  row-at : (i : ℕ) → i < n → rowOf (rowsOf cells) (first + reportEntry s at i .typ) ≡ some (rowIn cells (getD places (reportEntry s at i .typ) 0))
-  row-at i h = at-row cells g (first + reportEntry s at i .typ) (getD places (reportEntry s at i .typ) 0) (w .rows i h)
+module _ (cells : List ℕ) (g : Kept cells) (s : List ℕ) (r : Statistics) (places : List ℕ) (w : Known cells s r places) where
+  abbrev type : ℕ → ℕ
+  type i = reportEntry s (r .at) i .typ
 
-  pub known-adds : (time : ℕ) → (rowsFor (rowsOf cells) (entriesFrom s first time at n 0) ≤ 256)
-      × (passes addUp (rowsOf cells) (entriesFrom s first time at n 0) ≡ false)
-  known-adds time = (
-    omega (
-      arith,
-      g .few,
-      rows-many cells,
-      ap length (none-new s first time at (rowsOf cells) n 0 (λ i h. ap has (row-at i (omega arith)))),
-    ),
-    none-passes s first time at (rowsOf cells) n 0 (g .good .rises)
+  row-at : (i : ℕ) → i < r .count → rowOf (rowsOf cells) (firstKey r + type i) ≡ some (rowIn cells (getD places (type i) 0))
+  row-at i h = at-row cells g (firstKey r + type i) (getD places (type i) 0) (w .rows i h)
+
+  -- the place of an entry that was read is one of 256
+  pub known-place : (i : ℕ) (x : Counter) → x ≡ reportEntry s (r .at) i → i < r .count → getD places (x .typ) 0 < 256
+  known-place i x q h = subst (λ y. getD places (y .typ) 0 < 256) (sym q) (omega (arith, w .rows i h .inside, g .few))
+
+  -- there is room for them, and no life count passes
+  pub known-adds : (rowsFor (rowsOf cells) (entriesAt s r) ≤ 256) × (passes addUp (rowsOf cells) (entriesAt s r) ≡ false)
+  known-adds = (
+    omega (arith, g .few, rows-many cells, ap length (none-new s r (rowsOf cells) (r .count) 0 (λ i h. ap has (row-at i (omega arith))))),
+    none-passes s r (rowsOf cells) (r .count) 0 (g .good .rises)
         (λ i h. omega (arith, w .few, w .far i (omega arith), ap lifeOf (row-at i (omega arith)))),
   )
 
@@ -101,6 +105,9 @@ noted-none cells first = record {
   where
     nowhere : (u : ℕ) → u < 256 → _≡_ {A = ℕ} (getD (replicate 256 256) u 0) 256
     nowhere u h = getD-replicate 256 u 256 0 h
+
+pub noted-same : (cells : List ℕ) {first other : ℕ} (places : List ℕ) → first ≡ other → Noted cells first places → Noted cells other places
+noted-same cells places e = subst (λ k. Noted cells k places) e
 
 module _ (cells : List ℕ) (g : Kept cells) (first : ℕ) (places : List ℕ) where
   -- the rows from the first key's place on
@@ -148,58 +155,59 @@ module _ (s : List ℕ) (at : ℕ) (places : List ℕ) (i : ℕ) (p : Placed s a
   placed-more t e h = below-more (λ j. getD places (reportEntry s at j .typ) 0 < 256) i p (subst (λ u. getD places u 0 < 256) e h)
 
   -- at the end all are known
-  pub placed-end : (cells : List ℕ) (first n : ℕ) → Noted cells first places → n < 256 → n ≤ i → Known cells s first at n places
-  placed-end cells first n w few h = record {
+  pub placed-end : (cells : List ℕ) (r : Statistics) → r .at ≡ at → Noted cells (firstKey r) places → r .count < 256 → r .count ≤ i → Known cells s r places
+  placed-end cells r is w few h = record {
     few = few;
     long = w .long;
-    rows = λ j l. w .rows (reportEntry s at j .typ) (type-small s at j) (p j (omega arith));
-    far = λ j l. w .far (reportEntry s at j .typ) (type-small s at j) (p j (omega arith));
+    rows = λ j l. w .rows (reportEntry s (r .at) j .typ) (type-small s (r .at) j) (there j l);
+    far = λ j l. w .far (reportEntry s (r .at) j .typ) (type-small s (r .at) j) (there j l);
   }
+    where
+      there : (j : ℕ) → j < r .count → getD places (reportEntry s (r .at) j .typ) 0 < 256
+      there j l = subst (λ a. getD places (reportEntry s a j .typ) 0 < 256) (sym is) (p j (omega arith))
 
 -- `post_known`: an entry is added up at its row's place
 
 -- at entry i: as in `add_all`, and the rows are where they were
-pub record KnownLoop (start s : List ℕ) (first at n : ℕ) (cells : List ℕ) (i : ℕ) : Type 0 where
-  pub added : AddLoop start s first at n cells i
+pub record KnownLoop (start s : List ℕ) (r : Statistics) (cells : List ℕ) (i : ℕ) : Type 0 where
+  pub added : AddLoop start s r cells i
   pub stays : (k j : ℕ) → RowAt start k j → RowAt cells k j
 
-module _ (start s : List ℕ) (first at n : ℕ) (g : Kept start) (places : List ℕ) (w : Known start s first at n places) where
+module _ (start s : List ℕ) (r : Statistics) (g : Kept start) (places : List ℕ) (w : Known start s r places) where
   -- at first it is as it was
-  pub known-none : KnownLoop start s first at n start 0
-  known-none = record {
-    added = add-none start s first at n g (λ time. known-adds start g s first at n places w time .0);
-    stays = λ k j a. a;
-  }
+  pub known-none : KnownLoop start s r start 0
+  known-none = record { added = add-none start s r g (known-adds start g s r places w .0); stays = λ k j a. a }
 
-  module _ (cells : List ℕ) (i : ℕ) (c : KnownLoop start s first at n cells i)
-      (t reference count : ℕ) (q : Reads s at i t reference count) (less : i < n) where
+  module _ (cells : List ℕ) (i : ℕ) (c : KnownLoop start s r cells i)
+      (x : Counter) (q : x ≡ reportEntry s (r .at) i) (e : Entry) (is : e ≡ entryOf r x) (less : i < r .count) where
     abbrev place : ℕ
-    place = getD places t 0
+    place = getD places (x .typ) 0
 
-    at-place : RowAt cells (first + t) place
-    at-place = c .stays (first + t) place (subst (λ u. RowAt start (first + u) (getD places u 0)) (sym (q .0)) (w .rows i less))
+    nth : Nth s r e i
+    nth = is ∙ ap (entryOf r) q
 
-    low : (time : ℕ) → leb (2 ^ 64) (lifeOf (rowOf (addEntry addUp (rowsOf cells) (entry (first + t) time reference count)) (first + t))) ≡ false
-    low time = add-low start s first at n cells i (c .added) t reference count q less time (known-adds start g s first at n places w time .1)
+    at-place : RowAt cells (e .key) place
+    at-place =
+        subst (λ k. RowAt cells k place) (sym (ap (λ y. y .key) is))
+        (c .stays (firstKey r + x .typ) place (subst (λ y. RowAt start (firstKey r + y .typ) (getD places (y .typ) 0)) (sym q) (w .rows i less)))
+
+    low : leb (2 ^ 64) (lifeOf (rowOf (addEntry addUp (rowsOf cells) e) (e .key))) ≡ false
+    low = add-low start s r cells i (c .added) e nth less (known-adds start g s r places w .1)
 
     -- the place is one of 256, and the life count there does not pass
-    pub known-fits : (place < 256) × (addUp (rowIn cells place) (entry 0 0 reference count) .life < 2 ^ 64)
-    unfolding addUp
+    pub known-fits : (place < 256) × (addUp (rowIn cells place) e .life < 2 ^ 64)
     known-fits = (
       omega (arith, at-place .inside, c .added .kept .few),
-      leb-false (2 ^ 64) (addUp (rowIn cells place) (entry (first + t) 0 reference count) .life)
-          (ap (leb (2 ^ 64)) (sym (own-life cells (c .added .kept) (entry (first + t) 0 reference count)
-          ∙ ap (λ o. addUp (orNew (first + t) o) (entry (first + t) 0 reference count) .life) (at-row cells (c .added .kept) (first + t) place at-place)))
-          ∙ low 0),
+      leb-false (2 ^ 64) (addUp (rowIn cells place) e .life)
+          (ap (leb (2 ^ 64)) (sym (own-life cells (c .added .kept) e
+          ∙ ap (λ o. addUp (orNew (e .key) o) e .life) (at-row cells (c .added .kept) (e .key) place at-place)))
+          ∙ low),
     )
 
     -- and then the others are left
-    pub known-more : first + 255 < 2 ^ 32 → (m : List ℕ)
-        → ((key time : ℕ) → m ≡ putRow cells place (addUp (rowIn cells place) (entry key time reference count))) → KnownLoop start s first at n m (i + 1)
-    known-more wide m e = record {
-      added = add-more start s first at n cells i (c .added) t reference count q less wide m
-          (λ time. (low time, e (first + t) time ∙ row-adds addUp cells (c .added .kept) (entry (first + t) time reference count) place at-place));
-      stays = λ k j a. subst (λ x. RowAt x k j) (sym (e 0 0))
-          (put-stays cells (c .added .kept) place (known-fits .0) (addUp (rowIn cells place) (entry 0 0 reference count))
-          (adding-key (rowIn cells place) (entry 0 0 reference count)) k j (c .stays k j a));
+    pub known-more : firstKey r + 255 < 2 ^ 32 → (m : List ℕ) → m ≡ putRow cells place (addUp (rowIn cells place) e) → KnownLoop start s r m (i + 1)
+    known-more wide m put = record {
+      added = add-more start s r cells i (c .added) e nth less wide m low (put ∙ row-adds addUp cells (c .added .kept) e place at-place);
+      stays = λ k j a. subst (λ l. RowAt l k j) (sym put)
+          (put-stays cells (c .added .kept) place (known-fits .0) (addUp (rowIn cells place) e) (adding-key (rowIn cells place) e) k j (c .stays k j a));
     }

@@ -6,9 +6,10 @@ use native.Mathlib.Omega.{arith}
 use lib.Dec.{eqb}
 use Rattle.octets.proofs.Cases.{test}
 use Rattle.octets.specs.Numbers.{Octets}
-use Rattle.blocks.specs.Statistics.{isStatistics, statisticsOf}
+use Rattle.blocks.specs.Statistics.{isStatistics, statisticsOf, reportEntry}
 use Rattle.blocks.specs.Walks.{readOf}
 use Rattle.blocks.specs.declared.record.Record.{Record}
+use Rattle.blocks.specs.declared.statistics.Statistics.{Statistics}
 use Rattle.blocks.specs.declared.cursor.Step.{Step}
 use Rattle.blocks.specs.declared.cursor.Step.the-variants as step
 use Rattle.blocks.specs.declared.walk.Reading.{Reading}
@@ -19,13 +20,13 @@ use Rattle.rows.specs.Posting.{Report, entries, addEntry, addAll, postRows, Sor
 use Rattle.rows.proofs.Rows.{sorted-add}
 use Rattle.rows.proofs.Posts.{each-or-new, each-add, post-cases}
 use Rattle.rows.proofs.Theorems.{adding-key, adding-under, stays-good}
-use Rattle.ledger.specs.Reports.{firstKey, entriesFrom, reportIn, stepAt, reportAt, reportBy, reportOf}
+use Rattle.ledger.specs.Reports.{firstKey, entryOf, entriesFrom, reportIn, stepAt, reportAt, reportBy, reportOf}
 use Rattle.ledger.specs.Steps.{Narrow, Ruled, Lies}
 use Rattle.ledger.proofs.ReportLaws.{lies, some-step}
 
 -- Entries
 
-abbrev Few : Entry → Type 0
+abbrev pub Few : Entry → Type 0
 Few e = (e .key < 2 ^ 32) × (e .count < 2 ^ 32)
 
 abbrev pub Fit : List Entry → Type 0
@@ -33,17 +34,20 @@ Fit [] = Unit {0}
 Fit (e ∷ es) = Few e × Fit es
 
 -- those of a report do
-pub entries-fit : (s : List ℕ) (first time at n k : ℕ) → first + 255 < 2 ^ 32 → Fit (entriesFrom s first time at n k)
+pub entry-few : (s : List ℕ) (r : Statistics) (i : ℕ) → firstKey r + 255 < 2 ^ 32 → Few (entryOf r (reportEntry s (r .at) i))
+entry-few s r i h = (omega (arith, type-small s (r .at) i), count-small s (r .at) i)
+
+entries-fit : (s : List ℕ) (r : Statistics) (n k : ℕ) → firstKey r + 255 < 2 ^ 32 → Fit (entriesFrom s r n k)
 unfolding entriesFrom
-entries-fit s first time at zero k h = tt
-entries-fit s first time at (suc n) k h = ((omega (arith, type-small s at k), count-small s at k), entries-fit s first time at n (suc k) h)
+entries-fit s r zero k h = tt
+entries-fit s r (suc n) k h = (entry-few s r k h, entries-fit s r n (suc k) h)
 
 -- of a record that a step hands out, and of octets and a record number
 pub record-fits : (s : List ℕ) (t : Record) → Lies s t → Fit (entries (reportIn s t))
 unfolding reportIn
 record-fits s t w =
     let r = statisticsOf t in
-    test (isStatistics t) (λ y. rw y (entries-fit s (firstKey r) (t .time .0) (r .at) (r .count) 0 (omega (arith, w .sac, w .sic, w .sid, w .styp))))
+    test (isStatistics t) (λ y. rw y (entries-fit s r (r .count) 0 (omega (arith, w .sac, w .sic, w .sid, w .styp))))
     (λ f. rw f tt)
 
 pub octets-fit : (s : List ℕ) (k : ℕ) → Octets s → Fit (entries (reportOf s k))

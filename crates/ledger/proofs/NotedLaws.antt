@@ -15,7 +15,6 @@ use Rattle.rows.specs.Rows.{Row, Entry, addUp, rowOf, has}
 use Rattle.rows.specs.Posting.{rowsFor, addEntry, Sorted}
 use Rattle.rows.proofs.Rows.{sorted-add, row-own, row-other, length-add, rows-step}
 use Rattle.rows.proofs.Theorems.{adding-key}
-use Rattle.ledger.specs.Steps.{entry}
 use Rattle.ledger.proofs.TableLaws.{get-same}
 
 -- The notes
@@ -73,18 +72,16 @@ pub record Counted (rows : List Row) (first : ℕ) (all rest : List Entry) (seen
   pub noted : Seen (λ u r. has r ≡ true) rows now first seen
 
 -- an entry more, of TYPE t
-pub counted-more : {rows : List Row} {first : ℕ} {all es rest : List Entry} {seen after : List Bool} {many : ℕ} (time m t reference count : ℕ)
-    → t < length seen → after ≡ set seen t true → es ≡ entry (first + t) time reference count ∷ rest → (c : Counted rows first all es seen many)
-    → m ≡ many + pick (has (rowOf (c .now) (first + t))) 0 1
+pub counted-more : {rows : List Row} {first : ℕ} {all es rest : List Entry} {seen after : List Bool} {many : ℕ} (m t : ℕ) (e : Entry)
+    → e .key ≡ first + t → t < length seen → after ≡ set seen t true → es ≡ e ∷ rest → (c : Counted rows first all es seen many)
+    → m ≡ many + pick (has (rowOf (c .now) (e .key))) 0 1
     → Counted rows first all rest after m
-counted-more {rows} {first} {all} {es} {rest} time m t reference count h a w c e =
-    let y = entry (first + t) time reference count in
-    record {
-      now = addEntry addUp (c .now) y;
-      rises = sorted-add addUp adding-key y (c .now) (c .rises);
-      same = rows-step addUp adding-key y (c .now) rest (c .rises) ∙ ap (rowsFor (c .now)) (sym w) ∙ c .same;
-      counted = omega (arith, length-add addUp adding-key y (c .now) (c .rises));
-      noted = subst (Seen _ rows (addEntry addUp (c .now) y) first) (sym a)
-          (seen-set t h (λ u n. row-other addUp adding-key y (c .now) (first + u) (λ q. n (omega arith))) (λ u n r g. g)
-          (ap has (row-own addUp adding-key y (c .now) (c .rises))) (c .noted));
-    }
+counted-more {rows} {first} {all} {es} {rest} m t e key h a w c more = record {
+  now = addEntry addUp (c .now) e;
+  rises = sorted-add addUp adding-key e (c .now) (c .rises);
+  same = rows-step addUp adding-key e (c .now) rest (c .rises) ∙ ap (rowsFor (c .now)) (sym w) ∙ c .same;
+  counted = omega (arith, length-add addUp adding-key e (c .now) (c .rises));
+  noted = subst (Seen _ rows (addEntry addUp (c .now) e) first) (sym a)
+      (seen-set t h (λ u n. row-other addUp adding-key e (c .now) (first + u) (λ q. n (omega arith))) (λ u n r g. g)
+      (subst (λ k. has (rowOf (addEntry addUp (c .now) e) k) ≡ true) key (ap has (row-own addUp adding-key e (c .now) (c .rises)))) (c .noted));
+}

@@ -73,12 +73,12 @@ module _ (s : List ℕ) (t : Record) where
   report-other e = rw e
 
   module _ (e : isStatistics t ≡ true) (r : Statistics) (is : r ≡ statisticsOf t) where
-    pub report-counts : counts (entriesAt s (t .time .0) r) ≡ reportIn s t
+    pub report-counts : counts (entriesAt s r) ≡ reportIn s t
     unfolding reportIn
     report-counts = rw (e, is)
 
     -- its entries lie in the octets
-    pub entries-lie : Lies s t → InOctets s (r .at) (r .count)
+    pub entries-lie : Lies s t → InOctets s r
     entries-lie w = rw is (rw (eqb-true (t .category) 23 (first-holds _ _ _ _ _ e)) at (w .room))
 
 -- The report that octets and a record number are

@@ -7,6 +7,7 @@ use Rattle.blocks.specs.Statistics.{isStatistics, statisticsOf, reportEntry}
 use Rattle.blocks.specs.Steps.{stepBy, stepOf}
 use Rattle.blocks.specs.Walks.{readOf}
 use Rattle.blocks.specs.declared.record.Record.{Record}
+use Rattle.blocks.specs.declared.statistics.Entry.{Entry as Counter}
 use Rattle.blocks.specs.declared.statistics.Statistics.{Statistics}
 use Rattle.blocks.specs.declared.cursor.Step.{Step}
 use Rattle.blocks.specs.declared.cursor.Step.the-variants as step
@@ -14,26 +15,30 @@ use Rattle.blocks.specs.declared.walk.Reading.{Reading}
 use Rattle.blocks.specs.declared.walk.Reading.the-variants as reading
 use Rattle.rows.specs.Rows.{Entry, keyOf}
 use Rattle.rows.specs.Posting.{Report, refused, counts}
+use Rattle.ledger.specs.declared.entries.Entry.{Entry as CodeEntry}
 
 -- the keys of a report's counters begin here: that of TYPE 0
 abbrev pub firstKey : Statistics → ℕ
 firstKey r = keyOf (r .sac) (r .sic) (r .service) 0
 
--- n entries from the k-th on, of those that lie from an offset, with the key of TYPE 0 and the record's time
-module _ (s : List ℕ) (first time at : ℕ) where
-  abbrev pub entryAt : ℕ → Entry
-  entryAt k = record { key = first + reportEntry s at k .typ; time = time; reference = reportEntry s at k .reference; count = reportEntry s at k .count }
+-- An entry of 23/120 as it is added up: with its counter's key and its report's time
+abbrev pub entryOf : Statistics → Counter → Entry
+entryOf r c = record { key = firstKey r + c .typ; time = r .time; reference = c .reference; count = c .count }
 
-  unfoldable pub entriesFrom : ℕ → ℕ → List Entry
-  entriesFrom zero k = []
-  entriesFrom (suc n) k = entryAt k ∷ entriesFrom n (suc k)
+-- a report's entries: n from the k-th on, and all of them; those of a record
+unfoldable pub entriesFrom : List ℕ → Statistics → ℕ → ℕ → List Entry
+entriesFrom s r zero k = []
+entriesFrom s r (suc n) k = entryOf r (reportEntry s (r .at) k) ∷ entriesFrom s r n (suc k)
 
--- the entries that a report's numbers name, with a time; and those of a record
-abbrev pub entriesAt : List ℕ → ℕ → Statistics → List Entry
-entriesAt s time r = entriesFrom s (firstKey r) time (r .at) (r .count) 0
+abbrev pub entriesAt : List ℕ → Statistics → List Entry
+entriesAt s r = entriesFrom s r (r .count) 0
 
 abbrev pub entriesOf : List ℕ → Record → List Entry
-entriesOf s t = entriesAt s (t .time .0) (statisticsOf t)
+entriesOf s t = entriesAt s (statisticsOf t)
+
+-- an entry that is handed on
+abbrev pub asEntry : CodeEntry → Entry
+asEntry e = record { key = e .key; time = e .time; reference = e .reference; count = e .count }
 
 -- the report that a typed record is
 unfoldable pub reportIn : List ℕ → Record → Report

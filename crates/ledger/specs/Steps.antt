@@ -6,13 +6,11 @@ use lib.ListN.{length, getD}
 use Rattle.blocks.specs.Statistics.{reportEntry}
 use Rattle.blocks.specs.Steps.{entryGroupOf}
 use Rattle.blocks.specs.declared.record.Record.{Record}
-use Rattle.rows.specs.Rows.{Row, Entry}
+use Rattle.blocks.specs.declared.statistics.Statistics.{Statistics}
+use Rattle.rows.specs.Rows.{Row}
 use Rattle.rows.specs.Posting.{Each, Good}
 use Rattle.ledger.specs.Ledgers.{rowIn, countOf, rowsOf, cellsOf}
-
--- an entry of its parts
-abbrev pub entry : ℕ → ℕ → ℕ → ℕ → Entry
-entry key time reference count = record { key = key; time = time; reference = reference; count = count }
+use Rattle.ledger.specs.Reports.{firstKey}
 
 -- a row's key and reading have 32 bits
 abbrev pub Narrow : Row → Type 0
@@ -29,9 +27,9 @@ pub record Kept (cells : List ℕ) : Type 0 where
   pub good : Good (rowsOf cells)
   pub narrow : Each Narrow (rowsOf cells)
 
--- n entries of 23/120 lie in the octets from an offset
-abbrev pub InOctets : List ℕ → ℕ → ℕ → Type 0
-InOctets s at n = at + n * entryGroupOf 23 .wide ≤ length s
+-- a report's entries of 23/120 lie in the octets
+abbrev pub InOctets : List ℕ → Statistics → Type 0
+InOctets s r = r .at + r .count * entryGroupOf 23 .wide ≤ length s
 
 -- what holds of every record that a step hands out: its entries lie in the octets, SAC and SIC are octets, and SID and STYP have four bits
 pub record Lies (s : List ℕ) (t : Record) : Type 0 where
@@ -58,9 +56,10 @@ pub record Noted (cells : List ℕ) (first : ℕ) (places : List ℕ) : Type 0 w
   pub rows : (u : ℕ) → u < 256 → getD places u 0 < 256 → RowAt cells (first + u) (getD places u 0)
   pub far : (u : ℕ) → u < 256 → getD places u 0 < 256 → rowIn cells (getD places u 0) .life + 2 ^ 40 ≤ 2 ^ 64
 
--- each of n entries has a key with a row, whose place stands by TYPE, and no report brings its life count to the end
-pub record Known (cells s : List ℕ) (first at n : ℕ) (places : List ℕ) : Type 0 where
-  pub few : n < 256
+-- each of a report's entries has a key with a row, whose place stands by TYPE, and no report brings its life count to the end
+pub record Known (cells s : List ℕ) (r : Statistics) (places : List ℕ) : Type 0 where
+  pub few : r .count < 256
   pub long : length places ≡ 256
-  pub rows : (i : ℕ) → i < n → RowAt cells (first + reportEntry s at i .typ) (getD places (reportEntry s at i .typ) 0)
-  pub far : (i : ℕ) → i < n → rowIn cells (getD places (reportEntry s at i .typ) 0) .life + 2 ^ 40 ≤ 2 ^ 64
+  pub rows : (i : ℕ) → i < r .count
+      → RowAt cells (firstKey r + reportEntry s (r .at) i .typ) (getD places (reportEntry s (r .at) i .typ) 0)
+  pub far : (i : ℕ) → i < r .count → rowIn cells (getD places (reportEntry s (r .at) i .typ) 0) .life + 2 ^ 40 ≤ 2 ^ 64

@@ -4,6 +4,7 @@ ghost use mathlib.Core.List.{[]};
 ghost use Rattle.ledger.specs.Ledgers.{cellsOf};
 
 pub mod cells;
+pub mod entries;
 pub mod lent;
 pub mod page;
 pub mod places;

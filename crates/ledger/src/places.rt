@@ -2,13 +2,14 @@
 ghost use mathlib.Core.Bool.{false};
 ghost use mathlib.Core.List.{_∷_, _++_};
 ghost use mathlib.Core.Path.{_≡_};
-ghost use Prim.Native.Nat.{ℕ, _≤_, _<_, _^_};
+ghost use Prim.Native.Nat.{_≤_, _<_, _^_};
 ghost use lib.Dec.{leb};
 ghost use lib.ListN.{length, take, drop};
 ghost use Rattle.rows.specs.Rows.{addUp, rowOf, has, lifeOf, orNew};
 ghost use Rattle.rows.specs.Posting.{addEntry};
 ghost use Rattle.ledger.specs.Ledgers.{rowIn, countOf, rowsOf, changed, putRow, asRow};
-ghost use Rattle.ledger.specs.Steps.{Kept, KeyPlace, entry};
+ghost use Rattle.ledger.specs.Reports.{asEntry};
+ghost use Rattle.ledger.specs.Steps.{Kept, KeyPlace};
 use crate::cells::CELLS;
 use crate::cells::COUNT;
 use crate::cells::ROWS;
@@ -16,6 +17,7 @@ use crate::cells::Row;
 use crate::cells::count_of;
 use crate::cells::put_row;
 use crate::cells::row_at;
+use crate::entries::Entry;
 use crate::sums::add_up;
 use crate::sums::is_past;
 
@@ -81,29 +83,29 @@ fn open(cells: &mut [u64; CELLS], i: usize, row: Row)
 }
 
 // An entry added up to the row at a place. The caller has seen that its life count does not pass.
-pub(crate) fn add_at(cells: &mut [u64; CELLS], i: usize, reference: u8, amount: u32)
-    requires { ⌜ (i < 256) × (addUp (rowIn (now cells) i) (entry 0 0 reference amount) .life < 2 ^ 64) ⌝ }
-    ensures { λ _. ⌜ ((key time : ℕ) → now (cells .exit) ≡ putRow (now (cells .entry)) i (addUp (rowIn (now (cells .entry)) i) (entry key time reference amount))) ⌝ }
+pub(crate) fn add_at(cells: &mut [u64; CELLS], i: usize, entry: Entry)
+    requires { ⌜ (i < 256) × (addUp (rowIn (now cells) i) (asEntry entry) .life < 2 ^ 64) ⌝ }
+    ensures { λ _. ⌜ now (cells .exit) ≡ putRow (now (cells .entry)) i (addUp (rowIn (now (cells .entry)) i) (asEntry entry)) ⌝ }
 {
     let row = row_at(cells, i);
-    let sum = add_up(row, reference, amount);
+    let sum = add_up(row, entry);
     put_row(cells, i, sum);
 }
 
 // An entry added up to its counter's row, or to a new one; or its life count would pass, and the answer is true. The caller has seen that there is
 // room.
-pub(crate) fn add_entry(cells: &mut [u64; CELLS], key: u64, reference: u8, amount: u32) -> bool
-    requires { ⌜ Kept (now cells) × ((time : ℕ) → length (addEntry addUp (rowsOf (now cells)) (entry key time reference amount)) ≤ 256) ⌝ }
-    ensures { λ r. ⌜ ((time : ℕ) → (r ≡ leb (2 ^ 64) (lifeOf (rowOf (addEntry addUp (rowsOf (now (cells .entry))) (entry key time reference amount)) key)))
-        × (r ≡ false → now (cells .exit) ≡ changed (λ rows. addEntry addUp rows (entry key time reference amount)) (now (cells .entry)))) ⌝ }
+pub(crate) fn add_entry(cells: &mut [u64; CELLS], entry: Entry) -> bool
+    requires { ⌜ Kept (now cells) × (length (addEntry addUp (rowsOf (now cells)) (asEntry entry)) ≤ 256) ⌝ }
+    ensures { λ r. ⌜ (r ≡ leb (2 ^ 64) (lifeOf (rowOf (addEntry addUp (rowsOf (now (cells .entry))) (asEntry entry)) (entry .key))))
+        × (r ≡ false → now (cells .exit) ≡ changed (λ rows. addEntry addUp rows (asEntry entry)) (now (cells .entry))) ⌝ }
 {
-    let i = find(cells, key);
-    let row = held(cells, i, key);
-    if is_past(row, reference, amount) {
+    let i = find(cells, entry.key);
+    let row = held(cells, i, entry.key);
+    if is_past(row, entry) {
         return true;
     }
-    let after = add_up(row, reference, amount);
-    if holds(cells, i, key) {
+    let after = add_up(row, entry);
+    if holds(cells, i, entry.key) {
         put_row(cells, i, after);
     } else {
         open(cells, i, after);

@@ -1,13 +1,13 @@
 // A statistics report posted to a ledger: all or nothing.
 ghost use mathlib.Core.Path.{_≡_};
 ghost use mathlib.Core.Bool.{true, false};
-ghost use Prim.Native.Nat.{ℕ, _+_, _≤_, _<_, _^_};
+ghost use Prim.Native.Nat.{_+_, _≤_, _<_, _^_};
 ghost use lib.Dec.{leb};
 ghost use Rattle.octets.specs.Choice.{pick};
 ghost use Rattle.rows.specs.Rows.{addUp, rowOf, has};
 ghost use Rattle.rows.specs.Posting.{counts, rowsFor, passes, addAll};
 ghost use Rattle.ledger.specs.Ledgers.{rowsOf, changed, answer, Held};
-ghost use Rattle.ledger.specs.Reports.{firstKey, entriesFrom, entriesAt, reportIn, stepAt};
+ghost use Rattle.ledger.specs.Reports.{firstKey, entriesAt, reportIn, stepAt};
 ghost use Rattle.ledger.specs.Posts.{postedTo, postOf};
 ghost use Rattle.ledger.specs.Steps.{Noted, Kept, InOctets, Known, Lies};
 use crate::Answer;
@@ -16,6 +16,8 @@ use crate::cells::CELLS;
 use crate::cells::ROWS;
 use crate::cells::count_of;
 use crate::cells::row_at;
+use crate::entries::entry_of;
+use crate::entries::first_key;
 use crate::places::add_at;
 use crate::places::add_entry;
 use crate::places::find;
@@ -32,13 +34,6 @@ use blocks::walk::Reading;
 use blocks::walk::read;
 use octets::refusal;
 
-// The key of TYPE 0 among a report's counters.
-fn first_key(report: Statistics) -> u64
-    ensures { λ r. ⌜ (r ≡ firstKey report) × (r + 255 < 2 ^ 32) ⌝ }
-{
-    ((report.sac as u64 * 256 + report.sic as u64) * 256 + report.service as u64) * 256
-}
-
 // How many rows a key would add: one where it has none.
 fn new_rows(cells: &[u64; CELLS], key: u64) -> usize
     requires { ⌜ Kept (now cells) ⌝ }
@@ -51,19 +46,21 @@ fn new_rows(cells: &[u64; CELLS], key: u64) -> usize
     1
 }
 
-// Whether there is room for all new counters of n entries, each counted once.
-fn has_room(cells: &[u64; CELLS], s: &[u8], first: u64, at: usize, n: usize) -> bool
-    requires { ⌜ Kept (now cells) × (first + 255 < 2 ^ 32) × InOctets (now s) at n ⌝ }
-    ensures { λ r. ⌜ ((time : ℕ) → r ≡ leb (rowsFor (rowsOf (now (cells .entry))) (entriesFrom (now (s .entry)) first time at n 0)) 256) ⌝ }
+// Whether there is room for all new counters of a report, each counted once.
+fn has_room(cells: &[u64; CELLS], s: &[u8], report: Statistics) -> bool
+    requires { ⌜ Kept (now cells) × InOctets (now s) report ⌝ }
+    ensures { λ r. ⌜ r ≡ leb (rowsFor (rowsOf (now (cells .entry))) (entriesAt (now (s .entry)) report)) 256 ⌝ }
 {
     let mut rows = count_of(cells);
+    let n = report.count;
     if rows + n <= ROWS {
         return true;
     }
+    let first = first_key(report);
     let mut counted = [false; 256];
     let mut i: usize = 0;
     while i < n {
-        let entry = counter(s, at, i);
+        let entry = counter(s, report.at, i);
         let typ = entry.typ as usize;
         if !counted[typ] {
             counted[typ] = true;
@@ -74,23 +71,17 @@ fn has_room(cells: &[u64; CELLS], s: &[u8], first: u64, at: usize, n: usize) -> 
     rows <= ROWS
 }
 
-// Adds up n entries in turn, until a life count would pass: then the answer is true, and the cells are of no use. The caller has seen that there
-// is room.
-fn add_all(cells: &mut [u64; CELLS], s: &[u8], first: u64, at: usize, n: usize) -> bool
-    requires { ⌜ Kept (now cells) × (first + 255 < 2 ^ 32) × InOctets (now s) at n
-        × ((time : ℕ) → rowsFor (rowsOf (now cells)) (entriesFrom (now s) first time at n 0) ≤ 256) ⌝ }
-    ensures { λ r. ⌜ ((time : ℕ) → (r ≡ passes addUp (rowsOf (now (cells .entry))) (entriesFrom (now (s .entry)) first time at n 0))
-        × (r ≡ false → now (cells .exit) ≡ changed (λ rows. addAll addUp rows (entriesFrom (now (s .entry)) first time at n 0)) (now (cells .entry)))) ⌝ }
+// Adds up a report's entries in turn, until a life count would pass: then the answer is true, and the cells are of no use. The caller has seen that
+// there is room.
+fn add_all(cells: &mut [u64; CELLS], s: &[u8], report: Statistics) -> bool
+    requires { ⌜ Kept (now cells) × InOctets (now s) report × (rowsFor (rowsOf (now cells)) (entriesAt (now s) report) ≤ 256) ⌝ }
+    ensures { λ r. ⌜ (r ≡ passes addUp (rowsOf (now (cells .entry))) (entriesAt (now (s .entry)) report))
+        × (r ≡ false → now (cells .exit) ≡ changed (λ rows. addAll addUp rows (entriesAt (now (s .entry)) report)) (now (cells .entry))) ⌝ }
 {
     let mut i: usize = 0;
-    while i < n {
-        let entry = counter(s, at, i);
-        if add_entry(
-            cells,
-            first + entry.typ as u64,
-            entry.reference,
-            entry.count,
-        ) {
+    while i < report.count {
+        let entry = counter(s, report.at, i);
+        if add_entry(cells, entry_of(report, entry)) {
             return true;
         }
         i += 1;
@@ -124,25 +115,19 @@ fn note_rows(cells: &[u64; CELLS], first: u64, places: &mut [u16; 256])
     }
 }
 
-// Whether each counter of n entries has a row whose life count is far from its end. Then `places` has the row's place, by TYPE.
-fn all_known(
-    cells: &[u64; CELLS],
-    s: &[u8],
-    first: u64,
-    at: usize,
-    n: usize,
-    places: &mut [u16; 256],
-) -> bool
-    requires { ⌜ Kept (now cells) × (first + 255 < 2 ^ 32) × InOctets (now s) at n × Noted (now cells) first (now places) ⌝ }
-    ensures { λ r. ⌜ (r ≡ true → Known (now (cells .entry)) (now (s .entry)) first at n (now (places .exit))) ⌝ }
+// Whether each counter of a report has a row whose life count is far from its end. Then `places` has the row's place, by TYPE.
+fn all_known(cells: &[u64; CELLS], s: &[u8], report: Statistics, places: &mut [u16; 256]) -> bool
+    requires { ⌜ Kept (now cells) × InOctets (now s) report × Noted (now cells) (firstKey report) (now places) ⌝ }
+    ensures { λ r. ⌜ (r ≡ true → Known (now (cells .entry)) (now (s .entry)) report (now (places .exit))) ⌝ }
 {
+    let n = report.count;
     if n > 255 {
         return false;
     }
-    note_rows(cells, first, places);
+    note_rows(cells, first_key(report), places);
     let mut i: usize = 0;
     while i < n {
-        let entry = counter(s, at, i);
+        let entry = counter(s, report.at, i);
         if places[entry.typ as usize] >= NOWHERE {
             return false;
         }
@@ -152,35 +137,35 @@ fn all_known(
 }
 
 // Posts the usual report, whose counters all have rows far from their end; or leaves the cells as they are, and answers false.
-fn post_known(cells: &mut [u64; CELLS], s: &[u8], first: u64, at: usize, n: usize) -> bool
-    requires { ⌜ Kept (now cells) × (first + 255 < 2 ^ 32) × InOctets (now s) at n ⌝ }
-    ensures { λ r. ⌜ (r ≡ true → (time : ℕ) → answer 0 (now (cells .exit)) ≡ postedTo (now (cells .entry)) (counts (entriesFrom (now (s .entry)) first time at n 0)))
+fn post_known(cells: &mut [u64; CELLS], s: &[u8], report: Statistics) -> bool
+    requires { ⌜ Kept (now cells) × InOctets (now s) report ⌝ }
+    ensures { λ r. ⌜ (r ≡ true → answer 0 (now (cells .exit)) ≡ postedTo (now (cells .entry)) (counts (entriesAt (now (s .entry)) report)))
         × (r ≡ false → now (cells .exit) ≡ now (cells .entry)) ⌝ }
 {
     let mut places = [NOWHERE; 256];
-    if !all_known(cells, s, first, at, n, &mut places) {
+    if !all_known(cells, s, report, &mut places) {
         return false;
     }
     let mut i: usize = 0;
-    while i < n {
-        let entry = counter(s, at, i);
+    while i < report.count {
+        let entry = counter(s, report.at, i);
         let place = places[entry.typ as usize] as usize;
-        add_at(cells, place, entry.reference, entry.count);
+        add_at(cells, place, entry_of(report, entry));
         i += 1;
     }
     true
 }
 
 // Posts any report: it is judged whole, on a copy, before the ledger changes.
-fn post_any(cells: &mut [u64; CELLS], s: &[u8], first: u64, at: usize, n: usize) -> u8
-    requires { ⌜ Kept (now cells) × (first + 255 < 2 ^ 32) × InOctets (now s) at n ⌝ }
-    ensures { λ r. ⌜ ((time : ℕ) → answer r (now (cells .exit)) ≡ postedTo (now (cells .entry)) (counts (entriesFrom (now (s .entry)) first time at n 0))) ⌝ }
+fn post_any(cells: &mut [u64; CELLS], s: &[u8], report: Statistics) -> u8
+    requires { ⌜ Kept (now cells) × InOctets (now s) report ⌝ }
+    ensures { λ r. ⌜ answer r (now (cells .exit)) ≡ postedTo (now (cells .entry)) (counts (entriesAt (now (s .entry)) report)) ⌝ }
 {
-    if !has_room(cells, s, first, at, n) {
+    if !has_room(cells, s, report) {
         return refusal::NO_ROOM;
     }
     let mut after = *cells;
-    if add_all(&mut after, s, first, at, n) {
+    if add_all(&mut after, s, report) {
         return refusal::LIFE_PASSES;
     }
     *cells = after;
@@ -189,14 +174,13 @@ fn post_any(cells: &mut [u64; CELLS], s: &[u8], first: u64, at: usize, n: usize)
 
 // A statistics report posted to lent cells. For the next layer: the cells keep the rules, and the entries lie in the octets.
 pub fn post_report(cells: &mut [u64; CELLS], s: &[u8], report: Statistics) -> u8
-    requires { ⌜ Kept (now cells) × InOctets (now s) (report .at) (report .count) ⌝ }
-    ensures { λ r. ⌜ ((time : ℕ) → answer r (now (cells .exit)) ≡ postedTo (now (cells .entry)) (counts (entriesAt (now (s .entry)) time report))) ⌝ }
+    requires { ⌜ Kept (now cells) × InOctets (now s) report ⌝ }
+    ensures { λ r. ⌜ answer r (now (cells .exit)) ≡ postedTo (now (cells .entry)) (counts (entriesAt (now (s .entry)) report)) ⌝ }
 {
-    let first = first_key(report);
-    if post_known(cells, s, first, report.at, report.count) {
+    if post_known(cells, s, report) {
         return refusal::ACCEPTED;
     }
-    post_any(cells, s, first, report.at, report.count)
+    post_any(cells, s, report)
 }
 
 // A typed record posted to lent cells, which keep the rules; a step handed out the record.

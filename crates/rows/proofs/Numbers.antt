@@ -49,6 +49,11 @@ map-same g h [] e = refl
 map-same g h (s ∷ l) e =
     λ j. e s (omega (arith, times-head s l)) j ∷ map-same g h l (λ i o. e i (omega (arith, times-more s i l))) j
 
+-- a map after a map is one map
+pub map-twice : {A B : Type 0} (f : A → B) (g : ℕ → A) (l : List ℕ) → map f (map g l) ≡ map (λ i. f (g i)) l
+map-twice f g [] = refl
+map-twice f g (i ∷ l) = ap (λ t. f (g i) ∷ t) (map-twice f g l)
+
 -- A number t taken out of a list
 
 -- a list without its first t
@@ -85,11 +90,6 @@ place-other t i j (s ∷ l) n o h =
     (λ ni. let g = place-other t i j l n o (let k = rw (ni, nj) at h in omega arith) in rw (ni, nj) (omega arith)))))
 
 -- The numbers below n
-
--- a map over successors is a map of the successors' values
-map-suc : {A : Type 0} (g : ℕ → A) (l : List ℕ) → map g (map suc l) ≡ map (λ i. g (suc i)) l
-map-suc g [] = refl
-map-suc g (s ∷ l) = ap (λ t. g (suc s) ∷ t) (map-suc g l)
 
 -- 0 is no successor
 times-zero : (l : List ℕ) → times 0 (map suc l) ≡ 0
@@ -133,11 +133,11 @@ place-upto (suc i) (suc n) h = rw (eqb·zero-suc i) (ap suc (place-suc i (upto n
 pub read-upto : {A : Type 0} (l : List A) (d : A) → map (λ i. getD l i d) (upto (length l)) ≡ l
 unfolding upto
 read-upto [] d = refl
-read-upto (x ∷ l) d = ap (λ t. x ∷ t) (map-suc (λ i. getD (x ∷ l) i d) (upto (length l)) ∙ read-upto l d)
+read-upto (x ∷ l) d = ap (λ t. x ∷ t) (map-twice (λ i. getD (x ∷ l) i d) suc (upto (length l)) ∙ read-upto l d)
 
 -- a map over 0 1 2 .. read at i is its value at i
 pub at-upto : {A : Type 0} (g : ℕ → A) (d : A) (i n : ℕ) → i < n → getD (map g (upto n)) i d ≡ g i
 unfolding upto
 at-upto g d i zero h = absurd (omega arith)
 at-upto g d zero (suc n) h = refl
-at-upto g d (suc i) (suc n) h = ap (λ l. getD l i d) (map-suc g (upto n)) ∙ at-upto (λ j. g (suc j)) d i n (omega arith)
+at-upto g d (suc i) (suc n) h = ap (λ l. getD l i d) (map-twice g suc (upto n)) ∙ at-upto (λ j. g (suc j)) d i n (omega arith)

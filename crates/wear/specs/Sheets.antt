@@ -16,8 +16,11 @@ use Rattle.wear.specs.declared.input.Turn.{Turn}
 abbrev pub headerLine : List ℕ
 headerLine = quoted "counter life reading\n"
 
+abbrev pub lineOf : ℕ → ℕ → ℕ → List ℕ
+lineOf key life reading = flatMap hexPair (octets 4 key) ++ quoted " " ++ decimal life ++ quoted " " ++ decimal reading ++ quoted "\n"
+
 abbrev pub rowLine : Row → List ℕ
-rowLine r = flatMap hexPair (octets 4 (r .key)) ++ quoted " " ++ decimal (r .life) ++ quoted " " ++ decimal (r .reading) ++ quoted "\n"
+rowLine r = lineOf (r .key) (r .life) (r .reading)
 
 abbrev pub totalsLine : Totals → List ℕ
 totalsLine t =

@@ -8,7 +8,7 @@ ghost use Rattle.ledger.specs.Ledgers.{rowsOf, table};
 ghost use Rattle.ledger.specs.Steps.{Kept};
 ghost use Rattle.text.specs.Gathered.{gathered, putAll};
 ghost use Rattle.wear.specs.Turns.{Worn};
-ghost use Rattle.wear.specs.Sheets.{longest, rowLine, totalsLine, Printed};
+ghost use Rattle.wear.specs.Sheets.{longest, lineOf, rowLine, totalsLine, Printed};
 use crate::input::Turn;
 use feed::totals::Totals;
 use ledger::cells::CELLS;
@@ -24,7 +24,7 @@ const SHEET: usize = 21 + 41 * 256 + 117;
 
 // A row: the key in 8 hex digits, life count and reading.
 fn row_line(text: &mut [u8], held: usize, key: u32, life: u64, reading: u64) -> usize
-    ensures { λ r. ⌜ gathered (now (text .exit)) r ≡ putAll (gathered (now (text .entry)) held) (rowLine record { key = key; life = life; reading = reading }) ⌝ }
+    ensures { λ r. ⌜ gathered (now (text .exit)) r ≡ putAll (gathered (now (text .entry)) held) (lineOf key life reading) ⌝ }
 {
     let mut spelled = [0u8; 4];
     octets::write4(&mut spelled, 0, key);

@@ -23,7 +23,9 @@ returns-2 : tie.Need-returns-2
 returns-2 c =
     let p = c .before in
     let p' = p .before in
-    let v = p' .before in
+    let t = p' .before in
+    let t' = t .before in
+    let v = t' .before in
     let v' = v .before in
     let u = v' .before in
     let u' = u .before in
@@ -37,7 +39,16 @@ returns-2 c =
     (x .octet-at .result) (x .octet-at .ensures ∙ octet-type _ _ ∙ rw (a .start-of .ensures)) (sym (i .is-report .ensures) ∙ not-false _ (u' .before .if1 .left))
     _
     (c .numbers-of .ensures
-    ∙ rw (u .source-at .ensures, u' .start-of2 .ensures, v .service-at .ensures, v' .start-of3 .ensures, p .place-at .ensures, p' .start-of4 .ensures))
+    ∙ rw (
+      u .source-at .ensures,
+      u' .start-of2 .ensures,
+      v .service-at .ensures,
+      v' .start-of3 .ensures,
+      t .time-at .ensures,
+      t' .start-of4 .ensures,
+      p .place-at .ensures,
+      p' .start-of5 .ensures,
+    ))
 
 pub see-spec : {M : Type 1} → statement M
 see-spec =
@@ -53,6 +64,8 @@ see-spec =
     (λ c κs. search needs)
     (λ c κs. rw (c .start-of3 .ensures) (c .before .before .before .before .before .before .before .before .starts-at .ensures .1 3))
     (λ c κs. search needs)
-    (λ c κs. rw (c .start-of4 .ensures) (c .before .before .before .before .before .before .before .before .before .before .starts-at .ensures .1 13))
-    (λ c κs. rw (c .before .before .service-at .ensures) (service-bits _ _))
+    (λ c κs. rw (c .start-of4 .ensures) (c .before .before .before .before .before .before .before .before .before .before .starts-at .ensures .1 5))
+    (λ c κs. search needs)
+    (λ c κs. rw (c .start-of5 .ensures) (c .before .before .before .before .before .before .before .before .before .before .before .before .starts-at .ensures .1 13))
+    (λ c κs. rw (c .before .before .before .before .service-at .ensures) (service-bits _ _))
     returns-2)

@@ -1,37 +1,34 @@
 -- `post_any`: no room; a life count that passes; all entries added up. Assumes nothing.
+use mathlib.Core.Path.{sym, _∙_}
+use Prim.Native.Nat.{_≤_}
 use borrow.Author.Needs.{needs}
-use borrow.Author.Tests.{not-true, not-false}
-use Rattle.ledger.proofs.PostSteps.{room-for, post-no-room, post-passes, may-add, post-added}
+use borrow.Author.Tests.{not-true, not-false, leb-true}
+use Rattle.rows.specs.Posting.{rowsFor}
+use Rattle.ledger.specs.Ledgers.{rowsOf}
+use Rattle.ledger.specs.Reports.{entriesAt}
+use Rattle.ledger.proofs.PostSteps.{no-room, life-passes, all-added}
 use Rattle.ledger.proofs.post.post_any.Statement.{statement}
 use Rattle.ledger.proofs.post.post_any.Tie as tie
 
 returns : tie.Need-returns
-returns c = post-no-room _ (c .before .before .before .before .pre .0) _ _ (c .before .has-room .ensures) (not-true _ (c .if1 .taken))
+returns c = no-room _ (c .before .before .before .before .pre .0) _ _ (c .before .has-room .ensures) (not-true _ (c .if1 .taken))
 
-add-all-requires : tie.Need-add-all-requires
-add-all-requires c κs =
-    let e = c .before .before in
-    let h = e .before in
-    let z = h .before .before .before in
-    (z .pre .0, z .pre .1, z .pre .2, room-for _ _ _ (h .has-room .ensures) (not-false _ (e .if1 .left)))
+-- past the branch there is room
+room : (e : tie.Else1) → let a = e .before .before .before .before .args in rowsFor (rowsOf (a .cells .now)) (entriesAt (a .s .now) (a .report)) ≤ 256
+room e = leb-true _ _ (sym (e .before .has-room .ensures) ∙ not-false _ (e .if1 .left))
 
 returns-2 : tie.Need-returns-2
 returns-2 c =
     let a = c .before in
     let e = a .before .before .before in
-    let h = e .before in
-    let z = h .before .before .before in
-    post-passes _ (z .pre .0) _ _ (h .has-room .ensures) (not-false _ (e .if1 .left)) _ (λ time. a .add-all .ensures time .0) (c .if2 .taken)
+    life-passes _ (e .before .before .before .before .pre .0) _ (room e) (sym (c .if2 .taken) ∙ a .add-all .ensures .0)
 
 returns-3 : tie.Need-returns-3
 returns-3 c =
     let a = c .before in
     let e = a .before .before .before in
-    let h = e .before in
-    let z = h .before .before .before in
-    post-added _ (z .pre .0) _
-    (may-add _ _ _ (h .has-room .ensures) (not-false _ (e .if1 .left)) _ (λ time. a .add-all .ensures time .0) (c .if2 .left))
-    _ (λ time. a .add-all .ensures time .1 (c .if2 .left))
+    let d = a .add-all .ensures in
+    all-added _ (e .before .before .before .before .pre .0) _ (room e) (sym (d .0) ∙ c .if2 .left) _ (d .1 (c .if2 .left))
 
 pub post-any-spec : {M : Type 1} → statement M
 post-any-spec =
@@ -39,6 +36,8 @@ post-any-spec =
     (tie.spec
     (λ c κs. search needs)
     returns
-    add-all-requires
+    (λ c κs. let e = c .before .before in
+    let z = e .before .before .before .before in
+    (z .pre .0, z .pre .1, room e))
     returns-2
     returns-3)

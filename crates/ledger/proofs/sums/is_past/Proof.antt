@@ -8,7 +8,7 @@ use borrow.Author.Tests.{leb-true, leb-false, lt-ltb, le-ltb}
 use Rattle.octets.proofs.Cases.{test}
 use Rattle.rows.specs.Rows.{addUp}
 use Rattle.ledger.specs.Ledgers.{asRow}
-use Rattle.ledger.specs.Steps.{entry}
+use Rattle.ledger.specs.Reports.{asEntry}
 use Rattle.ledger.proofs.sums.is_past.Statement.{statement}
 use Rattle.ledger.proofs.sums.is_past.Tie as tie
 
@@ -20,10 +20,9 @@ reaches life more sum h e =
 
 returns : tie.Need-returns
 unfolding addUp
-returns c key time =
+returns c =
     let a = c .before .before .args in
-    reaches (a .row .life) (c .added .result) (addUp (asRow (a .row)) (entry key time (a .reference) (a .amount)) .life) (omega arith)
-    (rw (c .added .ensures))
+    reaches (a .row .life) (c .added .result) (addUp (asRow (a .row)) (asEntry (a .entry)) .life) (omega arith) (rw (c .added .ensures))
 
 pub is-past-spec : {M : Type 1} → statement M
 is-past-spec = tie.close (tie.spec (λ c. search needs) (λ c κs. search needs) returns)
