@@ -1,7 +1,7 @@
 -- Demand 1: a refusal leaves the output and the ledger as they stood. That an operation answers at all, for every input, is its contract: none has a
 -- `requires`. That what breaks a rule gets the number of its first fault is in the files Given*.antt. Assumes nothing.
 use mathlib.Core.Bool.{true}
-use mathlib.Core.List.{List}
+use mathlib.Core.List.{List, map}
 use mathlib.Core.Path.{_≡_, ap, sym, _∙_}
 use Prim.Native.Nat.{ℕ, _≤_, _<_}
 use native.Mathlib.Omega.{arith}
@@ -14,8 +14,8 @@ use Rattle.octets.specs.Refusals.{rulesBroken, outputTooShort}
 use Rattle.blocks.specs.declared.record.Record.{Record}
 use Rattle.writing.specs.Written.{writeOf, rewriteOf}
 use Rattle.octets.specs.declared.output.Written.{Written}
-use Rattle.ledger.specs.Ledgers.{answer, rowsOf, keepsRules, Held}
-use Rattle.ledger.specs.Pages.{pageOf, storeOf, loadOf}
+use Rattle.ledger.specs.Ledgers.{answer, rowsOf, changed, keepsRules, Held}
+use Rattle.ledger.specs.Pages.{pageOf, untimed, storeOf, loadOf}
 use Rattle.ledger.specs.declared.Answer.{Answer}
 use Rattle.ledger.specs.declared.Ledger.{Ledger}
 use Rattle.ledger.proofs.CellLaws.{ledger-same}
@@ -63,9 +63,9 @@ store-page l xs h =
     test (keepsRules (l .cells)) (λ t. (t, puts-same (sym h ∙ rw t)))
     (λ f. let z : no rulesBroken ≡ puts xs = rw f at h in let e : _≡_ {A = ℕ} 0 1 = cc in absurd (omega arith))
 
--- Load after store gives the ledger back: of the n octets that were stored,
+-- Load after store gives the ledger back without its times: of the n octets that were stored,
 pub stored-loaded : (l : Ledger) → Held (l .cells) → (o out : List ℕ) (n : ℕ) → Stores l o out (Written.Octets n)
-    → (r : Answer) → Loads (take n out) r → r ≡ answer 0 (l .cells)
+    → (r : Answer) → Loads (take n out) r → r ≡ answer 0 (changed (map untimed) (l .cells))
 stored-loaded l held o out n h r e =
     let w = written-laid (storeOf (l .cells)) o out n (h .0) (h .1) in
     let p = store-page l (w .xs) (w .is) in

@@ -1,7 +1,8 @@
 -- A feed may be handed over at its door in pieces: where a call waits for more, a second one on the page that it stored, over the octets that it did not
--- use and those that follow, does what one call over all of them does. Assumes nothing.
+-- use and those that follow, goes on from the rows that the first left, without their times. Where these have no known time, both do what one call over
+-- all octets does. Assumes nothing.
 use mathlib.Core.Bool.{Bool}
-use mathlib.Core.List.{List, _++_}
+use mathlib.Core.List.{List, [], _∷_, _++_, map}
 use mathlib.Core.Path.{_≡_, refl, sym, ap, _∙_, subst}
 use Prim.Native.Nat.{ℕ, _+_, _≤_, _<_}
 use native.Mathlib.Omega.{arith}
@@ -12,8 +13,9 @@ use Rattle.octets.specs.Numbers.{Octets, laid}
 use Rattle.octets.specs.Outcomes.{puts, within}
 use Rattle.octets.proofs.Cases.{test}
 use Rattle.octets.proofs.Parts.{Octets-take}
+use Rattle.rows.specs.Rows.{Row, noTime}
 use Rattle.ledger.specs.Ledgers.{answer, rowsOf, cellsOf}
-use Rattle.ledger.specs.Pages.{pageOf, loadOf, storeOf}
+use Rattle.ledger.specs.Pages.{pageOf, untimed, loadOf, storeOf}
 use Rattle.ledger.specs.declared.Answer.{Answer}
 use Rattle.ledger.proofs.CellLaws.{rows-back}
 use Rattle.ledger.proofs.PageTheorems.{kept-load}
@@ -28,7 +30,7 @@ use Rattle.doors.specs.Answers.{isFew, putRefusal, putOutput}
 use Rattle.doors.specs.Feeds.{isOver, feedRun, pageFed, leftOff, doneCells, feedCells}
 use Rattle.demands.specs.Contracts.{WearFeeds}
 use Rattle.demands.specs.GivenFeeds.{fedPage}
-use Rattle.demands.specs.Pieces.{Waits, stored, unused, Together}
+use Rattle.demands.specs.Pieces.{Waits, stored, unused, NoTimes, Together}
 use Rattle.demands.proofs.Demand1.{few-feeding}
 use Rattle.demands.proofs.GivenPages.{load-page}
 use Rattle.demands.proofs.GivenFeeds.{fed-kept, fed-loaded, feed-given-0, puts-out, feed-accepted}
@@ -50,6 +52,11 @@ left-more ending.Ended h = absurd (omega arith)
 left-more ending.Stopped h = absurd (omega arith)
 left-more ending.More h = refl
 
+-- rows without a known time are what a page keeps of them
+none-untimed : (rows : List Row) → NoTimes rows → map untimed rows ≡ rows
+none-untimed [] n = refl
+none-untimed (r ∷ rows) n = λ i. record { key = r .key; life = r .life; reading = r .reading; time = sym (n .0) i } ∷ none-untimed rows (n .1) i
+
 module _ (page s t : List ℕ) (okay : Octets page) (are : Octets (s ++ t)) (more : ℕ) (l cells out after : List ℕ)
     (first : WearFeeds page s more l cells out after 0) (waits : Waits after) where
   abbrev run : Run
@@ -67,30 +74,35 @@ module _ (page s t : List ℕ) (okay : Octets page) (are : Octets (s ++ t)) (mor
   told : (i : ℕ) → i < feedCellCount → getD after i 0 ≡ getD (doneCells (length (fedPage page s more)) (doneOf run)) i 0
   told = cell-told cells after _ (says .1)
 
-  -- the page that was stored is that of the run's rows, and these are loaded from it
+  -- the page that was stored is that of the run's rows, and these are loaded from it without their times
   page-stored : stored after out ≡ fedPage page s more
   unfolding laid
   page-stored =
       (λ i. take (told wear.feedPage (omega arith) i) (says .0 i)) ∙ take-at (fedPage page s more) _ _ refl
 
-  loads : loadOf (stored after out) ≡ answer 0 (cellsOf (run .state .rows))
+  loads : loadOf (stored after out) ≡ answer 0 (cellsOf (map untimed (run .state .rows)))
   loads =
       ap loadOf (page-stored ∙ ap pageOf (sym (rows-back (run .state .rows)))) ∙ kept-load (cellsOf (run .state .rows)) (fed-kept page s okay front more)
+      ∙ ap (λ rows. answer 0 (cellsOf (map untimed rows))) (rows-back (run .state .rows))
 
-  -- the run of the second call, and the run over all
+  -- The second call's run: from the rows that the first left, without their times, over what it did not use and what follows.
   module _ (over : Bool) where
     abbrev second-run : Run
     second-run = feedRun (stored after out) (unused after s ++ t) over
 
-    goes-on : second-run ≡ runOver (drop (run .at) s ++ t) over (state (run .state .rows) zeros)
+    pub goes-on : second-run ≡ runOver (drop (run .at) s ++ t) over (state (map untimed (run .state .rows)) zeros)
     goes-on =
-        let rows = ap (λ (a : Answer). rowsOf (a .ledger .cells)) loads ∙ rows-back (run .state .rows) in
+        let rows = ap (λ (a : Answer). rowsOf (a .ledger .cells)) loads ∙ rows-back (map untimed (run .state .rows)) in
         λ i. runOver (drop (told wear.feedUsed (omega arith) i) s ++ t) over (state (rows i) zeros)
 
-    whole-run : feedRun page (s ++ t) over ≡ behind (run .at) (counting (run .state .totals) second-run)
+  -- Where they have no known time, it goes on where the first left off
+  module _ (none-known : NoTimes (run .state .rows)) (over : Bool) where
+    whole-run : feedRun page (s ++ t) over ≡ behind (run .at) (counting (run .state .totals) (second-run over))
     whole-run =
         counted-more s t (isOver more) over _ are (left-more (run .ending) (sym (told wear.feedLeftOff (omega arith)) ∙ waits))
-        ∙ ap (λ (r : Run). behind (run .at) (counting (run .state .totals) r)) (sym goes-on)
+        ∙ ap (λ (rows : List Row). behind (run .at) (counting (run .state .totals) (runOver (drop (run .at) s ++ t) over (state rows zeros))))
+        (sym (none-untimed (run .state .rows) none-known))
+        ∙ ap (λ (r : Run). behind (run .at) (counting (run .state .totals) r)) (sym (goes-on over))
 
     same-fed : pageFed (stored after out) (unused after s ++ t) over ≡ pageFed page (s ++ t) over
     same-fed =
@@ -99,13 +111,13 @@ module _ (page s t : List ℕ) (okay : Octets page) (are : Octets (s ++ t)) (mor
         ∙ ap (λ (r : Run). storeOf (cellsOf (r .state .rows))) (sym whole-run) ∙ sym (fed-loaded page (s ++ t) over good)
 
   -- Two calls, and one over the whole, with the same output and cells lent.
-  module _ (more' : ℕ) (l' cells' out₂ after₂ out' after' : List ℕ) (r₂ r' : ℕ)
+  module _ (none-known : NoTimes (run .state .rows)) (more' : ℕ) (l' cells' out₂ after₂ out' after' : List ℕ) (r₂ r' : ℕ)
       (second : WearFeeds (stored after out) (unused after s ++ t) more' l' cells' out₂ after₂ r₂)
       (whole : WearFeeds page (s ++ t) more' l' cells' out' after' r') where
     -- The second call stores the page that the one call stores, or is refused as it is.
     pub pieces-page : (r₂ ≡ r') × (out₂ ≡ out')
     pieces-page =
-        let same = same-fed (isOver more') in (
+        let same = same-fed none-known (isOver more') in (
           second .0 ∙ ap (λ x. putRefusal (isFew feedCellCount cells') (within (length l') x)) same ∙ sym (whole .0),
           second .1 ∙ ap (λ x. putOutput (isFew feedCellCount cells') l' (within (length l') x)) same ∙ sym (whole .1),
         )
@@ -117,12 +129,12 @@ module _ (page s t : List ℕ) (okay : Octets page) (are : Octets (s ++ t)) (mor
         let n = length (fedPage page (s ++ t) more') in
         let has = enough page (s ++ t) more' l' cells' out' after' r' whole e in
         let put : within (length l') (pageFed (stored after out) (unused after s ++ t) over) ≡ puts (fedPage page (s ++ t) more')
-        = ap (within (length l')) (same-fed over) ∙ puts-out page (s ++ t) okay are more' l' cells' out' after' r' whole has e in
+        = ap (within (length l')) (same-fed none-known over) ∙ puts-out page (s ++ t) okay are more' l' cells' out' after' r' whole has e in
         let second-laid : after₂ ≡ laid cells' 0 (doneCells n (doneOf (second-run over)))
         = (rw (le-ltb (length cells') feedCellCount has) at (second .2)) ∙ ap (λ x. laid cells' 0 (feedCells x (second-run over))) put in
         let whole-laid : after' ≡ laid cells' 0 (doneCells n (doneOf (behind (run .at) (counting (run .state .totals) (second-run over)))))
         = feed-accepted page (s ++ t) okay are more' l' cells' out' after' r' whole has e .1
-        ∙ ap (λ (r : Run). laid cells' 0 (doneCells n (doneOf r))) (whole-run over) in
+        ∙ ap (λ (r : Run). laid cells' 0 (doneCells n (doneOf r))) (whole-run none-known over) in
         let two = cell-told cells' after₂ _ second-laid in
         let one = cell-told cells' after' _ whole-laid in
         let added : (f : ℕ → ℕ → ℕ) (i : ℕ) → i < feedCellCount

@@ -181,6 +181,6 @@ examples =
     ∷ record {
       octets = p8Octets;
       answers =
-          posted 0 (record { key = 0x01021204; life = 100; reading = 100 } ∷ []) 19 statisticsRecord (counterFound (record { typ = 4; reference = 0; count = 100 })) p8Octets;
+          posted 0 (record { key = 0x01021204; life = 100; reading = 100; time = 128 } ∷ []) 19 statisticsRecord (counterFound (record { typ = 4; reference = 0; count = 100 })) p8Octets;
     }
     ∷ []

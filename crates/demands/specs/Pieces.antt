@@ -1,8 +1,11 @@
--- A feed that is handed over at its door in pieces: what the cells of one call leave to the next, and what those of two calls say of the whole.
+-- A feed that is handed over at its door in pieces: what the cells of one call leave to the next, and what those of two calls say of the whole. A page
+-- has no times (02 §4), so that the next call goes on from the rows without them.
 use mathlib.Core.List.{List}
 use mathlib.Core.Path.{_≡_}
 use Prim.Native.Nat.{ℕ, _+_}
 use lib.ListN.{getD, take, drop}
+use Rattle.rows.specs.Rows.{Row, noTime}
+use Rattle.rows.specs.Posting.{Each}
 use Rattle.feed.specs.Totals.{up}
 use Rattle.feed.specs.declared.run.Ending.{Ending}
 use Rattle.doors.specs.Cell as wear
@@ -18,6 +21,10 @@ stored cells out = take (getD cells wear.feedPage 0) out
 
 abbrev pub unused : List ℕ → List ℕ → List ℕ
 unused cells s = drop (getD cells wear.feedUsed 0) s
+
+-- no row has a known time, as where every entry that was posted counts from the last report
+abbrev pub NoTimes : List Row → Type 0
+NoTimes = Each (λ r. r .time ≡ noTime)
 
 -- the cells of the first call, of the second, and of one over the whole: a count goes up to 2^64 - 1
 pub record Together (first second whole : List ℕ) : Type 0 where

@@ -26,7 +26,7 @@ use Rattle.rows.specs.Posting.{Report, refused, counts, entries, postRows, answ
 use Rattle.ledger.specs.Ledgers.{answer, rowsOf, cellsOf}
 use Rattle.ledger.specs.Posts.{postedTo}
 use Rattle.ledger.specs.Reports.{entriesAt, reportIn}
-use Rattle.ledger.specs.Steps.{Kept, InOctets, Lies}
+use Rattle.ledger.specs.Steps.{Kept, Reported, Lies}
 use Rattle.ledger.specs.declared.Answer.{Answer}
 use Rattle.ledger.proofs.CellLaws.{rows-back, kept-of}
 use Rattle.ledger.proofs.NarrowLaws.{Fit, record-fits, post-ruled}
@@ -206,7 +206,7 @@ module _ (s : List ℕ) (len n : ℕ) (o : Octets s) (h : readOf s ≡ Reading.A
         lies-there : Lies s (f .one)
         lies-there = lies s at (f .one) (record { at = f .next }) o (sym (f .taken))
 
-        pub report-asks : Kept l × InOctets s r
+        pub report-asks : Kept l × Reported s r
         report-asks = (w .kept, entries-lie s (f .one) (first-report .0) r (first-report .1) lies-there)
 
         -- the others, once it is

@@ -1,7 +1,7 @@
 -- A ledger's cells and its rows: each is had from the other, place by place. Assumes nothing.
 use mathlib.Core.List.{List, [], _∷_, _++_, append-nil}
 use mathlib.Core.Path.{_≡_, refl, ap, sym, _∙_, subst}
-use Prim.Native.Nat.{ℕ, zero, suc, _+_, _-_, _/_, _%_, _≤_, _<_}
+use Prim.Native.Nat.{ℕ, zero, suc, _+_, _-_, _/_, _%_, _≤_, _<_, _^_}
 use native.Mathlib.Omega.{arith}
 use lib.Dec.{ltb}
 use lib.ListN.{length, getD, replicate, length-append, length-replicate, List·getD-append, List·getD-eq-default}
@@ -28,15 +28,25 @@ row-part : (cells : List ℕ) (i j : ℕ) → j < wide → getD (rowCells (rowIn
 row-part cells i zero h = refl
 row-part cells i (suc zero) h = refl
 row-part cells i (suc (suc zero)) h = refl
-row-part cells i (suc (suc (suc j))) h = absurd (omega arith)
+row-part cells i (suc (suc (suc zero))) h = refl
+row-part cells i (suc (suc (suc (suc j)))) h = absurd (omega arith)
 
 -- a place has a row if it has its numbers
 pub row-is : (cells : List ℕ) (i : ℕ) (r : Row) → ((j : ℕ) → j < wide → getD cells (rowPlace i + j) 0 ≡ getD (rowCells r) j 0) → rowIn cells i ≡ r
-row-is cells i r h p = record { key = h 0 (omega arith) p; life = h 1 (omega arith) p; reading = h 2 (omega arith) p }
+row-is cells i r h p = record {
+  key = h 0 (omega arith) p;
+  life = h 1 (omega arith) p;
+  reading = h 2 (omega arith) p;
+  time = h 3 (omega arith) p;
+}
 
--- an empty place has zeros
-blank : (j : ℕ) → j < wide → getD (rowCells (newRow 0)) j 0 ≡ 0
-blank j h = row-part (replicate wide 0) 0 j h ∙ get-same 0 wide (rowPlace 0 + j)
+-- an empty place has numbers of 32 bits
+blank : (j : ℕ) → j < wide → getD (rowCells (newRow 0)) j 0 < 2 ^ 32
+blank zero h = omega arith
+blank (suc zero) h = omega arith
+blank (suc (suc zero)) h = omega arith
+blank (suc (suc (suc zero))) h = omega arith
+blank (suc (suc (suc (suc j)))) h = absurd (omega arith)
 
 -- a cell is one of the ledger's own, or number j at a place
 by-cell : (P : ℕ → Type 0) → ((j : ℕ) → j < head → P j) → ((i j : ℕ) → j < wide → P (rowPlace i + j)) → (q : ℕ) → P q
@@ -58,10 +68,6 @@ cells-same xs ys a b own rows =
     ext-getD 0 xs ys (a ∙ sym b)
     (by-cell (λ q. q < length xs → getD xs q 0 ≡ getD ys q 0) (λ j h l. own j h)
     (λ i j h l. sym (row-part xs i j h) ∙ ap (λ r. getD (rowCells r) j 0) (rows i (omega arith)) ∙ row-part ys i j h))
-
--- where all numbers are zero a place is empty
-pub none-row : (n i : ℕ) → rowIn (replicate n 0) i ≡ newRow 0
-none-row n i = row-is (replicate n 0) i (newRow 0) (λ j h. get-same 0 n (rowPlace i + j) ∙ sym (blank j h))
 
 -- there are as many rows as the row count says, and each is what its place has
 pub rows-many : (cells : List ℕ) → length (rowsOf cells) ≡ countOf cells
@@ -131,7 +137,7 @@ module _ (rows : List Row) where
       (λ i h. row-get i (omega (arith, within-upto i (length rows) h))) ∙ read-upto rows (newRow 0)
 
   -- what is below a bound in every row is below it in every cell
-  pub cells-small : length rows ≤ 256 → (b : ℕ) → 256 < b → ((i : ℕ) → i < length rows → (j : ℕ) → j < wide → getD (rowCells (getD rows i (newRow 0))) j 0 < b)
+  pub cells-small : length rows ≤ 256 → (b : ℕ) → 2 ^ 32 ≤ b → ((i : ℕ) → i < length rows → (j : ℕ) → j < wide → getD (rowCells (getD rows i (newRow 0))) j 0 < b)
       → (q : ℕ) → getD (cellsOf rows) q 0 < b
   cells-small few b p small =
       by-cell (λ q. getD (cellsOf rows) q 0 < b)
@@ -150,12 +156,9 @@ module _ (rows : List Row) where
     narrow = subst (Each Narrow) (sym rows-back) (w .1);
   }
 
--- no rows keep the rules, and their ledger is all zero
+-- no rows keep the rules
 pub ruled-none : Ruled []
 ruled-none = (record { rises = tt; few = omega arith; read = tt; lived = tt }, tt)
-
-pub fresh-cells : replicate ledgerCells 0 ≡ cellsOf []
-fresh-cells = cells-are [] (replicate ledgerCells 0) refl (omega arith) refl (λ i h. none-row ledgerCells i)
 
 -- a ledger is its cells
 pub ledger-same : {l m : Ledger} → l .cells ≡ m .cells → l ≡ m
@@ -163,7 +166,7 @@ ledger-same e i = record { cells = e i }
 
 -- What the rules say of a ledger's cells
 
--- there are 769
+-- there are so many
 pub kept-long : (cells : List ℕ) → Kept cells → length cells ≡ ledgerCells
 kept-long cells k = ap length (k .rest) ∙ cells-long (rowsOf cells) (k .good .few)
 
@@ -174,6 +177,6 @@ kept-rising cells k i j less h =
     let high = ap (λ r. r .key) (rows-get cells j h) in
     omega (arith, sorted-get (rowsOf cells) i j (k .good .rises) less (omega (arith, rows-many cells)))
 
--- a row's key and reading have 32 bits
+-- a row's key and reading have 32 bits, and its time is one
 pub kept-narrow : (cells : List ℕ) → Kept cells → (i : ℕ) → i < countOf cells → Narrow (rowIn cells i)
 kept-narrow cells k i h = subst Narrow (rows-get cells i h) (each-at Narrow (rowsOf cells) (k .narrow) i (omega (arith, rows-many cells)))

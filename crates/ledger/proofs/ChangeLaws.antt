@@ -5,7 +5,7 @@ use Prim.Native.Nat.{ℕ, zero, suc, _+_, _-_, _≤_, _<_}
 use native.Mathlib.Nat.{le-of-suc-le-suc, not-suc-le-zero}
 use native.Mathlib.Omega.{arith}
 use lib.Dec.{eqb}
-use lib.ListN.{length, getD, take, drop, set, length-append, length-take, length-drop, length-set, List·getD-append}
+use lib.ListN.{length, getD, take, drop, set, replicate, length-append, length-take, length-drop, length-set, List·getD-append}
 use lib.Seq.{sets, sets-eq, length-sets, length-take-le, getD-append-add, getD-take, getD-drop, getD-set-same, getD-set-other}
 use borrow.Author.Tests.{eqb-true, eqb-false}
 use Rattle.octets.proofs.Cases.{test}
@@ -49,12 +49,14 @@ module _ (l : List ℕ) (o : ℕ) (p : List ℕ) (fits : o + length p ≤ length
 
 -- by its numbers, one after the other
 pub put-numbers : (cells : List ℕ) (i : ℕ) (r : Row)
-    → set (set (set cells (rowPlace i + 0) (r .key)) (rowPlace i + 1) (r .life)) (rowPlace i + 2) (r .reading) ≡ putRow cells i r
+    → set (set (set (set cells (rowPlace i + 0) (r .key)) (rowPlace i + 1) (r .life)) (rowPlace i + 2) (r .reading)) (rowPlace i + 3) (r .time)
+    ≡ putRow cells i r
 put-numbers cells i r =
     let a : rowPlace i + 0 ≡ rowPlace i = omega arith in
     let b : rowPlace i + 1 ≡ suc (rowPlace i) = omega arith in
     let c : rowPlace i + 2 ≡ suc (suc (rowPlace i)) = omega arith in
-    (λ p. set (set (set cells (a p) (r .key)) (b p) (r .life)) (c p) (r .reading))
+    let d : rowPlace i + 3 ≡ suc (suc (suc (rowPlace i))) = omega arith in
+    (λ p. set (set (set (set cells (a p) (r .key)) (b p) (r .life)) (c p) (r .reading)) (d p) (r .time))
 
 module _ (cells : List ℕ) (long : length cells ≡ ledgerCells) (i : ℕ) (h : i < 256) (r : Row) where
   fits : rowPlace i + length (rowCells r) ≤ length cells
@@ -74,6 +76,31 @@ module _ (cells : List ℕ) (long : length cells ≡ ledgerCells) (i : ℕ) (h :
       (λ m. sets-before cells (rowPlace i) (rowCells r) fits (rowPlace j + k) (omega arith))
       (λ e. absurd (n e))
       (λ m. sets-behind cells (rowPlace i) (rowCells r) fits (rowPlace j + k) (omega arith)))
+
+-- Places made empty, one after the other, of cells that are all zero
+
+pub record Emptied (cells : List ℕ) (i : ℕ) : Type 0 where
+  pub long : length cells ≡ ledgerCells
+  pub count : countOf cells ≡ 0
+  pub empty : (j : ℕ) → j < i → rowIn cells j ≡ newRow 0
+
+pub emptied-none : Emptied (replicate ledgerCells 0) 0
+emptied-none = record { long = refl; count = refl; empty = λ j h. absurd (omega arith) }
+
+module _ (cells : List ℕ) (i : ℕ) (w : Emptied cells i) where
+  -- one place more
+  pub emptied-more : i < 256 → (r : Row) → r ≡ newRow 0 → Emptied (putRow cells i r) (i + 1)
+  emptied-more h r e = record {
+    long = put-long cells (w .long) i h r;
+    count = put-head cells (w .long) i h r 0 (omega arith) ∙ w .count;
+    empty = λ j l. test (eqb j i)
+        (λ t. subst (λ k. rowIn (putRow cells i r) k ≡ newRow 0) (sym (eqb-true j i t)) (put-own cells (w .long) i h r ∙ e))
+        (λ f. put-other cells (w .long) i h r j (eqb-false j i f) ∙ w .empty j (omega (arith, eqb-false j i f)));
+  }
+
+  -- all of them: the ledger without rows
+  pub emptied-all : 256 ≤ i → cells ≡ cellsOf []
+  emptied-all h = cells-are [] cells (w .long) (omega arith) (w .count) (λ j l. w .empty j (omega arith))
 
 -- what stands at a place of rows with another row at one, and with one row more
 set-get : (rows : List Row) (i j : ℕ) (x y : Row) → i < length rows → (j ≡ i → y ≡ x) → ((j ≡ i → ⊥) → y ≡ getD rows j (newRow 0))

@@ -32,6 +32,6 @@ field-fits w n xs vs h i = subst (λ (ys : List ℕ). getD ys i 0 < 2 ^ bits w) 
 -- for a parameter that is a ledger by value: `held _ _ (z .good .0)`, with z the record at the function's entry
 pub held : (l : Ledger) (vs : List Val) → Is (row the-type) l vs → Held (l .cells)
 held l vs h = record {
-  long = field-long w64 769 (l .cells) _ (h .1 .1 .0);
-  small = field-fits w64 769 (l .cells) _ (h .1 .1 .0);
+  long = field-long w64 1025 (l .cells) _ (h .1 .1 .0);
+  small = field-fits w64 1025 (l .cells) _ (h .1 .1 .0);
 }

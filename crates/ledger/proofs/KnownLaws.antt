@@ -12,11 +12,11 @@ use lib.Seq.{getD-set-same, getD-set-other}
 use borrow.Author.Count.{below-more}
 use borrow.Author.Tests.{lt-leb, leb-false, eqb-true, eqb-false}
 use Rattle.octets.proofs.Cases.{test}
-use Rattle.blocks.specs.Statistics.{reportEntry}
+use Rattle.blocks.specs.Statistics.{latestTime, reportEntry}
 use Rattle.blocks.specs.declared.statistics.Entry.{Entry as Counter}
 use Rattle.blocks.specs.declared.statistics.Statistics.{Statistics}
 use Rattle.blocks.proofs.SmallLaws.{type-small, count-small}
-use Rattle.rows.specs.Rows.{Row, Entry, adds, addUp, rowOf, has, lifeOf, orNew}
+use Rattle.rows.specs.Rows.{Row, Entry, newRow, sinceLast, midnight, adds, addUp, rowOf, has, lifeOf, orNew}
 use Rattle.rows.specs.Posting.{newKeys, rowsFor, addEntry, passes, Sorted}
 use Rattle.rows.proofs.Rows.{sorted-add, row-own, row-other}
 use Rattle.rows.proofs.Theorems.{adding-key}
@@ -30,15 +30,16 @@ use Rattle.ledger.proofs.PlaceLaws.{put-stays, at-row, row-adds, own-li
 
 -- An entry raises a life count by its own count at most
 
-adds-few : (reading reference count : ℕ) → adds reading reference count ≤ count
-adds-few reading reference count =
-    test (eqb reference 1) (λ t. rw t (omega arith))
-    (λ f. rw f (test (leb reading count) (λ t. rw t (omega arith)) (λ g. rw g (omega arith))))
+adds-few : (r : Row) (e : Entry) → adds r e ≤ e .count
+adds-few r e =
+    test (sinceLast e) (λ t. rw t (omega arith))
+    (λ f. rw f (test (midnight r e) (λ t. rw t (omega arith))
+    (λ n. rw n (test (leb (r .reading) (e .count)) (λ t. rw t (omega arith)) (λ g. rw g (omega arith))))))
 
 added-life : (k : ℕ) (o : Option Row) (e : Entry) → addUp (orNew k o) e .life ≤ lifeOf o + e .count
 unfolding addUp
-added-life k none e = omega (arith, adds-few 0 (e .reference) (e .count))
-added-life k (some r) e = omega (arith, adds-few (r .reading) (e .reference) (e .count))
+added-life k none e = omega (arith, adds-few (newRow k) e)
+added-life k (some r) e = omega (arith, adds-few r e)
 
 raises : (rows : List Row) (e : Entry) → Sorted rows → (k : ℕ) → lifeOf (rowOf (addEntry addUp rows e) k) ≤ lifeOf (rowOf rows k) + e .count
 raises rows e s k =
@@ -205,9 +206,9 @@ module _ (start s : List ℕ) (r : Statistics) (g : Kept start) (places : List �
     )
 
     -- and then the others are left
-    pub known-more : firstKey r + 255 < 2 ^ 32 → (m : List ℕ) → m ≡ putRow cells place (addUp (rowIn cells place) e) → KnownLoop start s r m (i + 1)
-    known-more wide m put = record {
-      added = add-more start s r cells i (c .added) e nth less wide m low (put ∙ row-adds addUp cells (c .added .kept) e place at-place);
+    pub known-more : firstKey r + 255 < 2 ^ 32 → r .time ≤ latestTime → (m : List ℕ) → m ≡ putRow cells place (addUp (rowIn cells place) e) → KnownLoop start s r m (i + 1)
+    known-more wide day m put = record {
+      added = add-more start s r cells i (c .added) e nth less wide day m low (put ∙ row-adds addUp cells (c .added .kept) e place at-place);
       stays = λ k j a. subst (λ l. RowAt l k j) (sym put)
           (put-stays cells (c .added .kept) place (known-fits .0) (addUp (rowIn cells place) e) (adding-key (rowIn cells place) e) k j (c .stays k j a));
     }

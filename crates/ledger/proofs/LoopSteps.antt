@@ -9,7 +9,7 @@ use lib.ListN.{length, getD, set, replicate, length-set}
 use borrow.Author.Tests.{le-leb}
 use Rattle.octets.specs.Choice.{pick}
 use Rattle.octets.proofs.Cases.{neither}
-use Rattle.blocks.specs.Statistics.{reportEntry}
+use Rattle.blocks.specs.Statistics.{latestTime, reportEntry}
 use Rattle.blocks.specs.declared.statistics.Entry.{Entry as Counter}
 use Rattle.blocks.specs.declared.statistics.Statistics.{Statistics}
 use Rattle.rows.specs.Rows.{Row, Entry, addUp, rowOf, has, lifeOf}
@@ -157,12 +157,12 @@ module _ (start s : List ℕ) (r : Statistics) where
       add-low h = neither own (passes addUp next (left s r (i + 1))) (next-past ∙ h) .0
 
       -- it does not pass, and then the others are left
-      pub add-more : firstKey r + 255 < 2 ^ 32 → (m : List ℕ) → own ≡ false → m ≡ cellsOf next → AddLoop start s r m (i + 1)
+      pub add-more : firstKey r + 255 < 2 ^ 32 → r .time ≤ latestTime → (m : List ℕ) → own ≡ false → m ≡ cellsOf next → AddLoop start s r m (i + 1)
       unfolding addAll
-      add-more w m low is = record {
+      add-more w d m low is = record {
         kept = subst Kept (sym is) (kept-of next (
           good-add addUp adding-key adding-under (rowsOf cells) e (c .kept .good) add-room low,
-          add-narrow (rowsOf cells) e (c .kept .good .rises) (c .kept .narrow) (subst Few (sym q) (entry-few s r i w)),
+          add-narrow (rowsOf cells) e (c .kept .good .rises) (c .kept .narrow) (subst Few (sym q) (entry-few s r i w d)),
         ));
         room = rw rows-are next-room;
         past = rw rows-are (sym (ap (λ b. b || passes addUp next (left s r (i + 1))) low) ∙ next-past);

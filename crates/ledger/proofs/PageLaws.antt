@@ -1,4 +1,4 @@
--- A page and its rows: the page of rows gives the rows back, and the rows of a page give the page. Assumes nothing.
+-- A page and its rows: the page of rows gives the rows back without their times, and the rows of a page give the page. Assumes nothing.
 use mathlib.Core.Path.{_≡_, refl, sym, ap, _∙_, subst}
 use mathlib.Core.Bool.{true, _&&_}
 use mathlib.Core.List.{List, [], _++_, map, append-assoc, append-nil}
@@ -11,10 +11,10 @@ use borrow.Author.Tests.{leb-true, eqb-true, le-leb, eq-eqb}
 use Rattle.octets.specs.Numbers.{Octets, number, octets}
 use Rattle.octets.proofs.Numbers.{number-lt, number-octets, length-octets, octets-number}
 use Rattle.octets.proofs.Cases.{both}
-use Rattle.rows.specs.Rows.{Row, newRow}
+use Rattle.rows.specs.Rows.{Row, noTime, newRow}
 use Rattle.rows.specs.Order.{upto}
 use Rattle.rows.specs.Posting.{Each}
-use Rattle.rows.proofs.Numbers.{map-same, read-upto, within-upto, at-upto}
+use Rattle.rows.proofs.Numbers.{map-same, map-twice, read-upto, within-upto, at-upto}
 use Rattle.ledger.specs.Ledgers.{table}
 use Rattle.ledger.specs.Pages.{
   keysAt,
@@ -24,6 +24,7 @@ use Rattle.ledger.specs.Pages.{
   keyOctets,
   countOctets,
   pageOf,
+  untimed,
   rowAt,
   countIn,
   rowsIn,
@@ -34,7 +35,7 @@ use Rattle.ledger.proofs.TableLaws.{parts, listed-many, length-table, t
 
 -- what the widths of the numbers hold of a row
 abbrev pub Small : Row → Type 0
-Small r = (r .key < 2 ^ 32) × (r .life < 2 ^ 64) × (r .reading < 2 ^ 32)
+Small r = (r .key < 2 ^ 32) × (r .life < 2 ^ 64) × (r .reading < 2 ^ 32) × (r .time < 2 ^ 32)
 
 -- Lengths
 
@@ -125,14 +126,15 @@ module _ (rows : List Row) (small : Each Small rows) where
       (simp (length-append, length-octets)) (simp append-assoc))
       ahead [] page (readingsAt (length rows)) rows ahead-long (rw append-nil) small
 
-  rows-page : map (rowAt page (length rows)) (upto (length rows)) ≡ rows
+  rows-page : map (rowAt page (length rows)) (upto (length rows)) ≡ map untimed rows
   rows-page =
-      map-same (rowAt page (length rows)) (λ i. getD rows i (newRow 0)) (upto (length rows))
-      (λ i h. let m = within-upto i (length rows) h in (λ p. record { key = key-back i m p; life = life-back i m p; reading = reading-back i m p }))
-      ∙ read-upto rows (newRow 0)
+      map-same (rowAt page (length rows)) (λ i. untimed (getD rows i (newRow 0))) (upto (length rows))
+      (λ i h. let m = within-upto i (length rows) h in
+      (λ p. record { key = key-back i m p; life = life-back i m p; reading = reading-back i m p; time = noTime }))
+      ∙ sym (map-twice untimed (λ i. getD rows i (newRow 0)) (upto (length rows))) ∙ ap (map untimed) (read-upto rows (newRow 0))
 
-  -- The page of rows gives the rows back.
-  pub page-back : length rows ≤ 256 → (headKeeps page ≡ true) × (rowsIn page ≡ rows)
+  -- The page of rows gives the rows back without their times.
+  pub page-back : length rows ≤ 256 → (headKeeps page ≡ true) × (rowsIn page ≡ map untimed rows)
   page-back few =
       let q = table keyOctets rows ++ table countOctets rows in
       let e : page ≡ headOf (length rows) ++ q = append-assoc (headOf (length rows)) (table keyOctets rows) (table countOctets rows) in
@@ -147,7 +149,7 @@ pub small-in : (s : List ℕ) → Octets s → Each Small (rowsIn s)
 small-in s o =
     each-from Small (rowsIn s) (λ i l.
     subst Small (sym (at-upto (rowAt s (countIn s)) (newRow 0) i (countIn s) (rw (listed-many (rowAt s (countIn s)) (countIn s)) at l)))
-    (number-lt 4 s _ o, number-lt 8 s _ o, number-lt 4 s _ o))
+    (number-lt 4 s _ o, number-lt 8 s _ o, number-lt 4 s _ o, omega arith))
 
 -- what the tests on a head say
 pub record Head (s : List ℕ) : Type 0 where

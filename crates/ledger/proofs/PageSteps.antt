@@ -5,7 +5,8 @@ use mathlib.Core.List.{List, [], map}
 use Prim.Native.Nat.{ℕ, _+_, _*_, _≤_, _<_}
 use native.Mathlib.Omega.{arith}
 use lib.Dec.{leb, ltb, eqb}
-use lib.ListN.{length, set, replicate, List·getD-eq-default}
+use lib.ListN.{length, set, length-set, List·getD-eq-default}
+use lib.Seq.{getD-set-same}
 use borrow.Author.Tests.{ltb-true, ltb-false, eqb-true, eqb-false, ne-eqb}
 use Rattle.octets.specs.Numbers.{number}
 use Rattle.octets.specs.Refusals.{rulesBroken}
@@ -16,7 +17,7 @@ use Rattle.rows.proofs.Numbers.{at-upto}
 use Rattle.ledger.specs.Ledgers.{ledgerCells, rowIn, countOf, cellsOf, putRow, answer, keepsRules}
 use Rattle.ledger.specs.Pages.{pageLength, countIn, headKeeps, rowAt, cellsIn, loadOf}
 use Rattle.ledger.specs.declared.Answer.{Answer}
-use Rattle.ledger.proofs.CellLaws.{none-row, cells-are}
+use Rattle.ledger.proofs.CellLaws.{cells-long, row-get, cells-are}
 use Rattle.ledger.proofs.ChangeLaws.{put-long, put-head, put-own, put-other, set-count}
 use Rattle.ledger.proofs.TableLaws.{listed-many}
 use Rattle.ledger.proofs.PageLaws.{head-says}
@@ -41,18 +42,19 @@ pub record Loaded (s : List ℕ) (n : ℕ) (cells : List ℕ) (i : ℕ) : Type 0
   pub empty : (j : ℕ) → i ≤ j → j < 256 → rowIn cells j ≡ newRow 0
 
 module _ (s : List ℕ) (n : ℕ) where
-  -- of cells that are all zero the row count was set
-  pub loaded-none : (b : Bool) → b ≡ headKeeps s → b ≡ true → n ≡ countIn s → Loaded s n (set (replicate ledgerCells 0) 0 n) 0
-  loaded-none b e t is =
+  -- of a fresh ledger's cells the row count was set
+  pub loaded-none : (b : Bool) → b ≡ headKeeps s → b ≡ true → n ≡ countIn s → (l : List ℕ) → l ≡ cellsOf [] → Loaded s n (set l 0 n) 0
+  loaded-none b e t is l none =
       let w = head-says s (sym e ∙ t) in
+      let long : length l ≡ ledgerCells = ap length none ∙ cells-long [] (omega arith) in
       record {
         few = rw is (w .few);
         long = rw is (w .long);
         within = omega arith;
-        room = refl;
-        count = refl;
-        done = λ j l. absurd (omega arith);
-        empty = λ j l m. set-count (replicate ledgerCells 0) n j ∙ none-row ledgerCells j;
+        room = length-set l 0 n ∙ long;
+        count = getD-set-same l 0 n 0 (omega arith);
+        done = λ j h. absurd (omega arith);
+        empty = λ j h m. set-count l n j ∙ ap (λ c. rowIn c j) none ∙ row-get [] j (omega arith);
       }
 
   module _ (cells : List ℕ) (i : ℕ) (w : Loaded s n cells i) where

@@ -1,19 +1,23 @@
 -- A page stored and loaded: the theorems on pages (01 "Ledger"). Assumes nothing.
 use mathlib.Core.Path.{_≡_, refl, sym, ap, _∙_, subst}
 use mathlib.Core.Bool.{true, _&&_}
-use mathlib.Core.List.{List, []}
+use mathlib.Core.List.{List, [], _∷_, map}
 use Prim.Native.Nat.{ℕ, zero, suc, _≤_, _<_, _^_}
 use native.Mathlib.Omega.{arith}
-use lib.ListN.{length, getD}
+use lib.Dec.{leb, eqb}
+use lib.ListN.{length, getD, length-map}
+use borrow.Author.Tests.{leb-true, eqb-true}
 use Rattle.octets.specs.Numbers.{Octets}
 use Rattle.octets.specs.Outcomes.{puts}
 use Rattle.octets.specs.Refusals.{rulesBroken}
 use Rattle.octets.proofs.Cases.{test, both}
-use Rattle.rows.specs.Rows.{Row}
-use Rattle.rows.specs.Posting.{Each}
-use Rattle.ledger.specs.Ledgers.{wide, rowCells, answer, rowsOf, cellsOf, keepsRules, Held}
-use Rattle.ledger.specs.Pages.{pageOf, rowAt, countIn, rowsIn, cellsIn, headKeeps, loadOf, storeOf}
-use Rattle.ledger.specs.Steps.{Narrow, Kept}
+use Rattle.blocks.specs.Statistics.{latestTime}
+use Rattle.rows.specs.Rows.{Row, noTime}
+use Rattle.rows.specs.Posting.{Above, Sorted, Each}
+use Rattle.rows.proofs.Cases.{either}
+use Rattle.ledger.specs.Ledgers.{wide, rowCells, answer, rowsOf, cellsOf, changed, timeKeeps, keepsRules, Held}
+use Rattle.ledger.specs.Pages.{pageOf, untimed, rowAt, countIn, rowsIn, cellsIn, headKeeps, loadOf, storeOf}
+use Rattle.ledger.specs.Steps.{Narrow, Ruled, Kept}
 use Rattle.ledger.specs.declared.Answer.{Answer}
 use Rattle.ledger.proofs.CellLaws.{cells-long, cells-small, rows-back, kept-of, ruled-none}
 use Rattle.ledger.proofs.RowPlaces.{each-from, each-at}
@@ -25,17 +29,22 @@ use Rattle.ledger.proofs.PutSteps.{store-puts}
 
 -- What the rules and the widths hold of rows
 
+time-small : (time : ℕ) → timeKeeps time ≡ true → time < 2 ^ 32
+time-small time h =
+    either (leb time latestTime) (eqb time noTime) h (λ t. omega (arith, leb-true time latestTime t)) (λ t. omega (arith, eqb-true time noTime t))
+
 kept-small : (cells : List ℕ) → Kept cells → Each Small (rowsOf cells)
 kept-small cells k =
     each-from Small (rowsOf cells) (λ i m.
     let n = each-at Narrow (rowsOf cells) (k .narrow) i m in
-    (n .0, each-at (λ r. r .life < 2 ^ 64) (rowsOf cells) (k .good .lived) i m, n .1))
+    (n .0, each-at (λ r. r .life < 2 ^ 64) (rowsOf cells) (k .good .lived) i m, n .1, time-small _ (n .2)))
 
 part-small : (r : Row) → Small r → (j : ℕ) → j < wide → getD (rowCells r) j 0 < 2 ^ 64
 part-small r s zero h = omega arith
 part-small r s (suc zero) h = s .1
 part-small r s (suc (suc zero)) h = omega arith
-part-small r s (suc (suc (suc j))) h = absurd (omega arith)
+part-small r s (suc (suc (suc zero))) h = omega arith
+part-small r s (suc (suc (suc (suc j)))) h = absurd (omega arith)
 
 small-held : (rows : List Row) → length rows ≤ 256 → Each Small rows → Held (cellsOf rows)
 small-held rows few small = record {
@@ -52,14 +61,39 @@ load-cases P s good bad =
     (λ t. let w = both (headKeeps s) (keepsRules (cellsIn s)) t in rw t (good (w .0) (w .1)))
     (λ f. rw f bad)
 
--- Loading what was stored gives the ledger back.
-pub kept-load : (cells : List ℕ) → Kept cells → loadOf (pageOf (rowsOf cells)) ≡ answer 0 cells
+-- Rows without their times keep the rules that they kept
+
+untimed-above : (k : ℕ) (rows : List Row) → Above k rows → Above k (map untimed rows)
+untimed-above k [] a = tt
+untimed-above k (r ∷ rows) a = (a .0, untimed-above k rows (a .1))
+
+untimed-sorted : (rows : List Row) → Sorted rows → Sorted (map untimed rows)
+untimed-sorted [] s = tt
+untimed-sorted (r ∷ rows) s = (untimed-above (r .key) rows (s .0), untimed-sorted rows (s .1))
+
+untimed-each : (P : Row → Type 0) → ((r : Row) → P r → P (untimed r)) → (rows : List Row) → Each P rows → Each P (map untimed rows)
+untimed-each P f [] e = tt
+untimed-each P f (r ∷ rows) e = (f r (e .0), untimed-each P f rows (e .1))
+
+pub untimed-ruled : (rows : List Row) → Ruled rows → Ruled (map untimed rows)
+untimed-ruled rows w = (
+  record {
+    rises = untimed-sorted rows (w .0 .rises);
+    few = omega (arith, length-map rows untimed, w .0 .few);
+    read = untimed-each (λ r. r .reading ≤ r .life) (λ r h. h) rows (w .0 .read);
+    lived = untimed-each (λ r. r .life < 2 ^ 64) (λ r h. h) rows (w .0 .lived);
+  },
+  untimed-each Narrow (λ r n. (n .0, n .1, refl)) rows (w .1),
+)
+
+-- Loading what was stored gives the ledger back without its times.
+pub kept-load : (cells : List ℕ) → Kept cells → loadOf (pageOf (rowsOf cells)) ≡ answer 0 (changed (map untimed) cells)
 kept-load cells kept =
     let w = page-back (rowsOf cells) (kept-small cells kept) (kept .good .few) in
-    let is : cellsIn (pageOf (rowsOf cells)) ≡ cells = ap cellsOf (w .1) ∙ sym (kept .rest) in
-    sym (load-kept (pageOf (rowsOf cells)) _ refl (w .0) cells (sym is) _ refl (rules-kept cells kept))
+    let rules = rules-kept _ (kept-of (map untimed (rowsOf cells)) (untimed-ruled (rowsOf cells) (kept .good, kept .narrow))) in
+    sym (load-kept (pageOf (rowsOf cells)) _ refl (w .0) _ (sym (ap cellsOf (w .1))) _ refl rules)
 
-pub store-load : (cells : List ℕ) → Held cells → keepsRules cells ≡ true → loadOf (pageOf (rowsOf cells)) ≡ answer 0 cells
+pub store-load : (cells : List ℕ) → Held cells → keepsRules cells ≡ true → loadOf (pageOf (rowsOf cells)) ≡ answer 0 (changed (map untimed) cells)
 store-load cells h k = kept-load cells (kept-rules cells h k)
 
 -- Storing what was loaded gives the octets.

@@ -16,18 +16,25 @@ use Rattle.blocks.specs.declared.cursor.Step.{Step}
 use Rattle.blocks.specs.declared.cursor.Step.the-variants as step
 use Rattle.blocks.specs.declared.statistics.Statistics.{Statistics}
 use Rattle.blocks.specs.declared.walk.Reading.{Reading}
-use Rattle.blocks.proofs.SmallLaws.{step-small}
+use Rattle.blocks.proofs.SmallLaws.{step-small, step-time}
 use Rattle.blocks.proofs.StepLaws.{not-taken, ofStep, by-step, entries-room}
 use Rattle.rows.specs.Posting.{refused, counts}
 use Rattle.ledger.specs.Reports.{entriesAt, reportIn, stepAt, reportOf}
-use Rattle.ledger.specs.Steps.{InOctets, Lies}
+use Rattle.ledger.specs.Steps.{Reported, Lies}
 
 -- What holds of every record that a step hands out
 
 pub lies : (s : List ℕ) (start : ℕ) (t : Record) (c : Cursor) → Octets s → Step.Taken t c ≡ stepOf s start → Lies s t
 lies s start t c o h =
     let w = step-small s start t c o h in
-    record { room = entries-room s start t c o h; sac = w .0 .0; sic = w .0 .1; sid = w .1 .0; styp = w .1 .1 }
+    record {
+      room = entries-room s start t c o h;
+      sac = w .0 .0;
+      sic = w .0 .1;
+      sid = w .1 .0;
+      styp = w .1 .1;
+      day = step-time s start t c o h;
+    }
 
 -- Record k from a start: a step first, and then record k - 1 from where the step ended
 module _ (s : List ℕ) where
@@ -77,9 +84,9 @@ module _ (s : List ℕ) (t : Record) where
     unfolding reportIn
     report-counts = rw (e, is)
 
-    -- its entries lie in the octets
-    pub entries-lie : Lies s t → InOctets s r
-    entries-lie w = rw is (rw (eqb-true (t .category) 23 (first-holds _ _ _ _ _ e)) at (w .room))
+    -- its entries lie in the octets, and its time is a time of day
+    pub entries-lie : Lies s t → Reported s r
+    entries-lie w = rw is (record { entries = rw (eqb-true (t .category) 23 (first-holds _ _ _ _ _ e)) at (w .room); day = w .day })
 
 -- The report that octets and a record number are
 module _ (s : List ℕ) (k : ℕ) where

@@ -8,10 +8,10 @@ use lib.Dec.{leb, ltb, eqb}
 use lib.ListN.{getD, List·getD-eq-default}
 use borrow.Author.Tests.{lt-ltb, ltb-true, ltb-false, leb-true, eqb-true, eqb-false, le-leb}
 use Rattle.octets.proofs.Cases.{test, both}
-use Rattle.rows.specs.Rows.{Row, newRow}
+use Rattle.rows.specs.Rows.{Row, noTime, newRow}
 use Rattle.rows.specs.Posting.{Each}
 use Rattle.rows.proofs.Cases.{either}
-use Rattle.ledger.specs.Ledgers.{rowIn, countOf, rowsOf, cellsOf, rowKeeps, rises, rowEmpty, placeKeeps, keepsRules, Held}
+use Rattle.ledger.specs.Ledgers.{rowIn, countOf, rowsOf, cellsOf, timeKeeps, rowKeeps, rises, rowEmpty, placeKeeps, keepsRules, Held}
 use Rattle.ledger.specs.Steps.{Narrow, Kept}
 use Rattle.ledger.proofs.RuleTests.{place-past, place-row, row-first, row-rises, all-hold, rules-hold, rules-few, rules-all}
 use Rattle.ledger.proofs.CellLaws.{rows-many, rows-get, row-get, cells-are, kept-rising}
@@ -21,23 +21,30 @@ use Rattle.ledger.proofs.RowPlaces.{each-from, each-at, sorted-from}
 
 -- a row by itself
 abbrev Keeps : Row → Type 0
-Keeps r = (r .key < 2 ^ 32) × (r .reading ≤ r .life) × (r .reading < 2 ^ 32)
+Keeps r = (r .key < 2 ^ 32) × (r .reading ≤ r .life) × (r .reading < 2 ^ 32) × (timeKeeps (r .time) ≡ true)
 
 keeps-says : (r : Row) → rowKeeps r ≡ true → Keeps r
 keeps-says r h =
-    let a = both (ltb (r .key) (2 ^ 32) && leb (r .reading) (r .life)) (ltb (r .reading) (2 ^ 32)) h in
-    let b = both (ltb (r .key) (2 ^ 32)) (leb (r .reading) (r .life)) (a .0) in
-    (ltb-true (r .key) (2 ^ 32) (b .0), leb-true (r .reading) (r .life) (b .1), ltb-true (r .reading) (2 ^ 32) (a .1))
+    let a = both (ltb (r .key) (2 ^ 32) && leb (r .reading) (r .life) && ltb (r .reading) (2 ^ 32)) (timeKeeps (r .time)) h in
+    let b = both (ltb (r .key) (2 ^ 32) && leb (r .reading) (r .life)) (ltb (r .reading) (2 ^ 32)) (a .0) in
+    let c = both (ltb (r .key) (2 ^ 32)) (leb (r .reading) (r .life)) (b .0) in
+    (ltb-true (r .key) (2 ^ 32) (c .0), leb-true (r .reading) (r .life) (c .1), ltb-true (r .reading) (2 ^ 32) (b .1), a .1)
 
 keeps-said : (r : Row) → Keeps r → rowKeeps r ≡ true
-keeps-said r w = rw (lt-ltb (r .key) (2 ^ 32) (w .0), le-leb (r .reading) (r .life) (w .1), lt-ltb (r .reading) (2 ^ 32) (w .2))
+keeps-said r w = rw (lt-ltb (r .key) (2 ^ 32) (w .0), le-leb (r .reading) (r .life) (w .1), lt-ltb (r .reading) (2 ^ 32) (w .2)) (w .3)
 
 -- an empty place
 empty-says : (r : Row) → rowEmpty r ≡ true → r ≡ newRow 0
 empty-says r h p =
-    let a = both (eqb (r .key) 0 && eqb (r .life) 0) (eqb (r .reading) 0) h in
-    let b = both (eqb (r .key) 0) (eqb (r .life) 0) (a .0) in
-    record { key = eqb-true (r .key) 0 (b .0) p; life = eqb-true (r .life) 0 (b .1) p; reading = eqb-true (r .reading) 0 (a .1) p }
+    let a = both (eqb (r .key) 0 && eqb (r .life) 0 && eqb (r .reading) 0) (eqb (r .time) noTime) h in
+    let b = both (eqb (r .key) 0 && eqb (r .life) 0) (eqb (r .reading) 0) (a .0) in
+    let c = both (eqb (r .key) 0) (eqb (r .life) 0) (b .0) in
+    record {
+      key = eqb-true (r .key) 0 (c .0) p;
+      life = eqb-true (r .life) 0 (c .1) p;
+      reading = eqb-true (r .reading) 0 (b .1) p;
+      time = eqb-true (r .time) noTime (a .1) p;
+    }
 
 -- the rules as plain facts about the places
 record ByPlace (cells : List ℕ) : Type 0 where
@@ -114,7 +121,7 @@ module _ (cells : List ℕ) where
         read = each-row (λ r. r .reading ≤ r .life) (λ i m. w .keeps i m .1);
         lived = each-row (λ r. r .life < 2 ^ 64) (λ i m. held .small _);
       };
-      narrow = each-row Narrow (λ i m. (w .keeps i m .0, w .keeps i m .2));
+      narrow = each-row Narrow (λ i m. (w .keeps i m .0, w .keeps i m .2, w .keeps i m .3));
     }
 
   module _ (k : Kept cells) where
@@ -127,7 +134,7 @@ module _ (cells : List ℕ) where
       rising = λ i m. kept-rising cells k i (suc i) (omega arith) m;
       keeps = λ i m.
           let n = kept-at Narrow (k .narrow) i m in
-          (n .0, kept-at (λ r. r .reading ≤ r .life) (k .good .read) i m, n .1);
+          (n .0, kept-at (λ r. r .reading ≤ r .life) (k .good .read) i m, n .1, n .2);
       empty = λ i m n.
           ap (λ c. rowIn c i) (k .rest) ∙ row-get (rowsOf cells) i (omega (arith, rows-many cells, k .few))
           ∙ List·getD-eq-default (rowsOf cells) (newRow 0) (omega (arith, rows-many cells));

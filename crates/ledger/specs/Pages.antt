@@ -1,5 +1,5 @@
 -- The ledger as a page (01 "Ledger"), high octet first: row count n, offset of keys, offset of readings, length, two octets each; then keys of
--- 4 octets; then for each row the life count (8 octets) and the reading (4).
+-- 4 octets; then for each row the life count (8 octets) and the reading (4). It leaves the times out (02 §4): loading gives unknown ones.
 use mathlib.Core.Bool.{Bool, _&&_}
 use mathlib.Core.List.{List, [], _++_, map}
 use Prim.Native.Nat.{ℕ, _+_, _*_}
@@ -9,7 +9,7 @@ use Rattle.octets.specs.Choice.{pick}
 use Rattle.octets.specs.Numbers.{number, octets}
 use Rattle.octets.specs.Outcomes.{Outcome, no, puts}
 use Rattle.octets.specs.Refusals.{rulesBroken}
-use Rattle.rows.specs.Rows.{Row}
+use Rattle.rows.specs.Rows.{Row, noTime}
 use Rattle.rows.specs.Order.{upto}
 use Rattle.ledger.specs.Ledgers.{answer, rowsOf, table, cellsOf, keepsRules}
 use Rattle.ledger.specs.declared.Answer.{Answer}
@@ -38,6 +38,10 @@ countOctets r = octets 8 (r .life) ++ octets 4 (r .reading)
 abbrev pub pageOf : List Row → List ℕ
 pageOf rows = headOf (length rows) ++ table keyOctets rows ++ table countOctets rows
 
+-- what a page keeps of a row
+abbrev pub untimed : Row → Row
+untimed r = record { key = r .key; life = r .life; reading = r .reading; time = noTime }
+
 -- 16, then (within the room of the output) 12
 unfoldable pub storeOf : List ℕ → Outcome
 storeOf cells = pick (keepsRules cells) (puts (pageOf (rowsOf cells))) (no rulesBroken)
@@ -50,6 +54,7 @@ rowAt s n i = record {
   key = number 4 s (keysAt + 4 * i);
   life = number 8 s (readingsAt n + 12 * i);
   reading = number 4 s (readingsAt n + 12 * i + 8);
+  time = noTime;
 }
 
 -- a page's row count, its rows, and its ledger

@@ -13,8 +13,11 @@ pub mod rules;
 pub mod sums;
 
 use crate::cells::CELLS;
+use crate::cells::ROWS;
+use crate::cells::new_row;
+use crate::cells::put_row;
 
-// The row count, then the rows, rising by key; places past the row count are all zero.
+// The row count, then the rows, rising by key; places past the row count are all zero, with no known time.
 pub struct Ledger {
     pub cells: [u64; CELLS],
 }
@@ -29,5 +32,11 @@ pub struct Answer {
 pub fn fresh() -> Ledger
     ensures { λ r. ⌜ r .cells ≡ cellsOf [] ⌝ }
 {
-    Ledger { cells: [0; CELLS] }
+    let mut cells = [0u64; CELLS];
+    let mut i: usize = 0;
+    while i < ROWS {
+        put_row(&mut cells, i, new_row(0));
+        i += 1;
+    }
+    Ledger { cells }
 }

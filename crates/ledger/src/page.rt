@@ -14,6 +14,7 @@ use crate::Answer;
 use crate::Ledger;
 use crate::cells::CELLS;
 use crate::cells::COUNT;
+use crate::cells::NO_TIME;
 use crate::cells::ROWS;
 use crate::cells::Row;
 use crate::cells::count_of;
@@ -64,7 +65,8 @@ pub fn load(page: &[u8]) -> Answer
         return broken();
     }
     let n = read2(page, 0) as usize;
-    let mut cells = [0u64; CELLS];
+    let empty = fresh();
+    let mut cells = empty.cells;
     cells[COUNT] = n as u64;
     let mut i: usize = 0;
     while i < n {
@@ -73,6 +75,7 @@ pub fn load(page: &[u8]) -> Answer
             key: read4(page, 8 + 4 * i) as u64,
             life: read8(page, at),
             reading: read4(page, at + 8) as u64,
+            time: NO_TIME,
         };
         put_row(&mut cells, i, row);
         i += 1;

@@ -15,6 +15,7 @@ use crate::cells::COUNT;
 use crate::cells::ROWS;
 use crate::cells::Row;
 use crate::cells::count_of;
+use crate::cells::new_row;
 use crate::cells::put_row;
 use crate::cells::row_at;
 use crate::entries::Entry;
@@ -60,11 +61,7 @@ fn held(cells: &[u64; CELLS], i: usize, key: u64) -> Row
     if holds(cells, i, key) {
         return row_at(cells, i);
     }
-    Row {
-        key: key,
-        life: 0,
-        reading: 0,
-    }
+    new_row(key)
 }
 
 // One row more at a place; those that stood from there on go one place further.

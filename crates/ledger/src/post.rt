@@ -9,7 +9,7 @@ ghost use Rattle.rows.specs.Posting.{counts, rowsFor, passes, addAll};
 ghost use Rattle.ledger.specs.Ledgers.{rowsOf, changed, answer, Held};
 ghost use Rattle.ledger.specs.Reports.{firstKey, entriesAt, reportIn, stepAt};
 ghost use Rattle.ledger.specs.Posts.{postedTo, postOf};
-ghost use Rattle.ledger.specs.Steps.{Noted, Kept, InOctets, Known, Lies};
+ghost use Rattle.ledger.specs.Steps.{Noted, Kept, Reported, Known, Lies};
 use crate::Answer;
 use crate::Ledger;
 use crate::cells::CELLS;
@@ -48,7 +48,7 @@ fn new_rows(cells: &[u64; CELLS], key: u64) -> usize
 
 // Whether there is room for all new counters of a report, each counted once.
 fn has_room(cells: &[u64; CELLS], s: &[u8], report: Statistics) -> bool
-    requires { ⌜ Kept (now cells) × InOctets (now s) report ⌝ }
+    requires { ⌜ Kept (now cells) × Reported (now s) report ⌝ }
     ensures { λ r. ⌜ r ≡ leb (rowsFor (rowsOf (now (cells .entry))) (entriesAt (now (s .entry)) report)) 256 ⌝ }
 {
     let mut rows = count_of(cells);
@@ -74,7 +74,7 @@ fn has_room(cells: &[u64; CELLS], s: &[u8], report: Statistics) -> bool
 // Adds up a report's entries in turn, until a life count would pass: then the answer is true, and the cells are of no use. The caller has seen that
 // there is room.
 fn add_all(cells: &mut [u64; CELLS], s: &[u8], report: Statistics) -> bool
-    requires { ⌜ Kept (now cells) × InOctets (now s) report × (rowsFor (rowsOf (now cells)) (entriesAt (now s) report) ≤ 256) ⌝ }
+    requires { ⌜ Kept (now cells) × Reported (now s) report × (rowsFor (rowsOf (now cells)) (entriesAt (now s) report) ≤ 256) ⌝ }
     ensures { λ r. ⌜ (r ≡ passes addUp (rowsOf (now (cells .entry))) (entriesAt (now (s .entry)) report))
         × (r ≡ false → now (cells .exit) ≡ changed (λ rows. addAll addUp rows (entriesAt (now (s .entry)) report)) (now (cells .entry))) ⌝ }
 {
@@ -117,7 +117,7 @@ fn note_rows(cells: &[u64; CELLS], first: u64, places: &mut [u16; 256])
 
 // Whether each counter of a report has a row whose life count is far from its end. Then `places` has the row's place, by TYPE.
 fn all_known(cells: &[u64; CELLS], s: &[u8], report: Statistics, places: &mut [u16; 256]) -> bool
-    requires { ⌜ Kept (now cells) × InOctets (now s) report × Noted (now cells) (firstKey report) (now places) ⌝ }
+    requires { ⌜ Kept (now cells) × Reported (now s) report × Noted (now cells) (firstKey report) (now places) ⌝ }
     ensures { λ r. ⌜ (r ≡ true → Known (now (cells .entry)) (now (s .entry)) report (now (places .exit))) ⌝ }
 {
     let n = report.count;
@@ -138,7 +138,7 @@ fn all_known(cells: &[u64; CELLS], s: &[u8], report: Statistics, places: &mut [u
 
 // Posts the usual report, whose counters all have rows far from their end; or leaves the cells as they are, and answers false.
 fn post_known(cells: &mut [u64; CELLS], s: &[u8], report: Statistics) -> bool
-    requires { ⌜ Kept (now cells) × InOctets (now s) report ⌝ }
+    requires { ⌜ Kept (now cells) × Reported (now s) report ⌝ }
     ensures { λ r. ⌜ (r ≡ true → answer 0 (now (cells .exit)) ≡ postedTo (now (cells .entry)) (counts (entriesAt (now (s .entry)) report)))
         × (r ≡ false → now (cells .exit) ≡ now (cells .entry)) ⌝ }
 {
@@ -158,7 +158,7 @@ fn post_known(cells: &mut [u64; CELLS], s: &[u8], report: Statistics) -> bool
 
 // Posts any report: it is judged whole, on a copy, before the ledger changes.
 fn post_any(cells: &mut [u64; CELLS], s: &[u8], report: Statistics) -> u8
-    requires { ⌜ Kept (now cells) × InOctets (now s) report ⌝ }
+    requires { ⌜ Kept (now cells) × Reported (now s) report ⌝ }
     ensures { λ r. ⌜ answer r (now (cells .exit)) ≡ postedTo (now (cells .entry)) (counts (entriesAt (now (s .entry)) report)) ⌝ }
 {
     if !has_room(cells, s, report) {
@@ -172,9 +172,10 @@ fn post_any(cells: &mut [u64; CELLS], s: &[u8], report: Statistics) -> u8
     refusal::ACCEPTED
 }
 
-// A statistics report posted to lent cells. For the next layer: the cells keep the rules, and the entries lie in the octets.
+// A statistics report posted to lent cells. For the next layer: the cells keep the rules, the entries lie in the octets, and the time is a time of
+// day.
 pub fn post_report(cells: &mut [u64; CELLS], s: &[u8], report: Statistics) -> u8
-    requires { ⌜ Kept (now cells) × InOctets (now s) report ⌝ }
+    requires { ⌜ Kept (now cells) × Reported (now s) report ⌝ }
     ensures { λ r. ⌜ answer r (now (cells .exit)) ≡ postedTo (now (cells .entry)) (counts (entriesAt (now (s .entry)) report)) ⌝ }
 {
     if post_known(cells, s, report) {

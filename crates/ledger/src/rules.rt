@@ -4,30 +4,35 @@ ghost use Prim.Native.Nat.{_<_};
 ghost use Rattle.ledger.specs.Ledgers.{rowKeeps, rowEmpty, placeKeeps, keepsRules, rulesRefusal, asRow};
 use crate::Ledger;
 use crate::cells::CELLS;
+use crate::cells::NO_TIME;
 use crate::cells::ROWS;
 use crate::cells::Row;
 use crate::cells::count_of;
 use crate::cells::row_at;
+use blocks::statistics::LATEST_TIME;
 use octets::refusal;
 
 // A key and a reading are below 2^32.
 const WIDTH: u64 = 0x1_0000_0000;
 
-// Whether a row keeps the rules by itself.
+// Whether a row keeps the rules by itself: its time is a time of day, or none is known.
 fn is_row_kept(row: Row) -> bool
     ensures { λ r. ⌜ r ≡ rowKeeps (asRow row) ⌝ }
 {
-    (row.key < WIDTH) & (row.reading <= row.life) & (row.reading < WIDTH)
+    (row.key < WIDTH)
+        & (row.reading <= row.life)
+        & (row.reading < WIDTH)
+        & ((row.time <= LATEST_TIME as u64) | (row.time == NO_TIME))
 }
 
 // Whether a place has no row.
 fn is_empty(row: Row) -> bool
     ensures { λ r. ⌜ r ≡ rowEmpty (asRow row) ⌝ }
 {
-    (row.key == 0) & (row.life == 0) & (row.reading == 0)
+    (row.key == 0) & (row.life == 0) & (row.reading == 0) & (row.time == NO_TIME)
 }
 
-// Whether a place keeps the rules: a row above the one before it; zeros past the row count.
+// Whether a place keeps the rules: a row above the one before it; no row past the row count.
 fn is_place_kept(cells: &[u64; CELLS], i: usize) -> bool
     requires { ⌜ i < 256 ⌝ }
     ensures { λ r. ⌜ r ≡ placeKeeps (now (cells .entry)) i ⌝ }

@@ -1,13 +1,13 @@
--- What is proved of posting, for every rule that keeps a row's key, and of document 01's rule. Assumes nothing.
+-- What is proved of posting, for every rule that keeps a row's key, and of the adding-up rule. Assumes nothing.
 use mathlib.Core.List.{List}
 use mathlib.Core.Path.{_≡_, refl, ap, sym, _∙_}
 use Prim.Native.Nat.{_≤_}
 use native.Mathlib.Omega.{arith}
-use lib.Dec.{leb, eqb}
+use lib.Dec.{leb}
 use lib.ListN.{length}
 use borrow.Author.Tests.{leb-true}
 use Rattle.octets.proofs.Cases.{test}
-use Rattle.rows.specs.Rows.{Row, Entry, addUp, rowOf, lifeOf}
+use Rattle.rows.specs.Rows.{Row, Entry, sinceLast, midnight, addUp, rowOf, lifeOf}
 use Rattle.rows.specs.Posting.{Report, entries, ofKey, Good}
 use Rattle.rows.specs.Order.{Order, inOrder, answersInOrder, upto}
 use Rattle.rows.specs.Claims.{AnyOrder, RowRule, AllOrNothing, NeverFalls, StaysGood}
@@ -49,7 +49,7 @@ pub all-or-nothing : (rule : Row → Entry → Row) → AllOrNothing rule
 all-or-nothing rule rows x =
     posted-cases rule (λ p. (p .refusal ≡ 0 → ⊥) → p .rows ≡ rows) rows x (λ _ _ _. refl) (λ _ _ h. absurd (h refl))
 
--- Document 01's rule is such a rule
+-- The adding-up rule is such a rule
 
 -- it keeps the key
 pub adding-key : (r : Row) (e : Entry) → addUp r e .key ≡ r .key
@@ -65,9 +65,10 @@ adding-grows r e = omega arith
 pub adding-under : (r : Row) (e : Entry) → r .reading ≤ r .life → addUp r e .reading ≤ addUp r e .life
 unfolding addUp
 adding-under r e h =
-    test (eqb (e .reference) 1) (λ t. rw t (omega arith))
-    (λ f. rw f (test (leb (r .reading) (e .count))
-    (λ t. let g = leb-true (r .reading) (e .count) t in rw t (omega arith)) (λ g. rw g (omega arith))))
+    test (sinceLast e) (λ t. rw t (omega arith))
+    (λ f. rw f (test (midnight r e) (λ t. rw t (omega arith))
+    (λ n. rw n (test (leb (r .reading) (e .count))
+    (λ t. let g = leb-true (r .reading) (e .count) t in rw t (omega arith)) (λ g. rw g (omega arith))))))
 
 -- every run has an order: its own
 pub own-order : (rs : List Report) → Order rs (upto (length rs))

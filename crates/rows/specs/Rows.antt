@@ -1,24 +1,29 @@
--- A ledger's rows, the entries of a report, and the adding-up rule (01 "Ledger").
-use mathlib.Core.Bool.{Bool, true, false}
+-- A ledger's rows, the entries of a report, and the adding-up rule (01 "Ledger", 02 §4).
+use mathlib.Core.Bool.{Bool, true, false, _&&_, not}
 use mathlib.Core.List.{List, [], _∷_}
 use mathlib.Core.Option.{Option, none, some}
-use Prim.Native.Nat.{ℕ, _+_, _*_, _-_}
-use lib.Dec.{leb, eqb}
+use Prim.Native.Nat.{ℕ, _+_, _*_, _-_, _^_}
+use lib.Dec.{leb, ltb, eqb}
 use Rattle.octets.specs.Choice.{pick}
 
--- a row: its counter's key, the life count, and the last midnight reading
+-- a row: its counter's key, the life count, the last midnight reading, and the time of the last from-midnight entry, in 1/128 s, or that none is known
 pub record Row : Type 0 where
   pub key : ℕ
   pub life : ℕ
   pub reading : ℕ
+  pub time : ℕ
+
+-- no known time: all ones in 32 bits, which no time of day is (02 §5 has it so on a page)
+abbrev pub noTime : ℕ
+noTime = 2 ^ 32 - 1
 
 -- a key: SAC, SIC, the octet of 015, TYPE, as one number, so that keys rise as these four do
 abbrev pub keyOf : ℕ → ℕ → ℕ → ℕ → ℕ
 keyOf sac sic octet typ = ((sac * 256 + sic) * 256 + octet) * 256 + typ
 
--- a new row starts at 0 and 0
+-- a new row starts at 0 and 0, with no known time
 abbrev pub newRow : ℕ → Row
-newRow k = record { key = k; life = 0; reading = 0 }
+newRow k = record { key = k; life = 0; reading = 0; time = noTime }
 
 -- an entry of a statistics report: its counter's key, its record's time, REF (0 from midnight, 1 from the last report) and count
 pub record Entry : Type 0 where
@@ -27,19 +32,28 @@ pub record Entry : Type 0 where
   pub reference : ℕ
   pub count : ℕ
 
--- From the last report, the count is added and the reading stays. From midnight, a count at or above the reading adds the difference; a
--- smaller one adds itself; the reading becomes the count.
-abbrev pub adds : ℕ → ℕ → ℕ → ℕ
-adds reading reference count = pick (eqb reference 1) count (pick (leb reading count) (count - reading) count)
+-- An entry counts from the last report, or from midnight
+abbrev pub sinceLast : Entry → Bool
+sinceLast e = eqb (e .reference) 1
 
-abbrev pub reads : ℕ → ℕ → ℕ → ℕ
-reads reading reference count = pick (eqb reference 1) reading count
+-- A midnight has passed since the row's time: the entry's is earlier. A clock set back counts as one; no known time does not
+abbrev pub midnight : Row → Entry → Bool
+midnight r e = not (eqb (r .time) noTime) && ltb (e .time) (r .time)
+
+-- From the last report, the count is added, and reading and time stay. From midnight, where a midnight has passed the whole count is added; else a
+-- count at or above the reading adds the difference, and a smaller one adds itself. The reading becomes the count, and the time the entry's.
+abbrev pub adds : Row → Entry → ℕ
+adds r e =
+    pick (sinceLast e) (e .count)
+    (pick (midnight r e) (e .count)
+    (pick (leb (r .reading) (e .count)) (e .count - r .reading) (e .count)))
 
 unfoldable pub addUp : Row → Entry → Row
 addUp r e = record {
   key = r .key;
-  life = r .life + adds (r .reading) (e .reference) (e .count);
-  reading = reads (r .reading) (e .reference) (e .count);
+  life = r .life + adds r e;
+  reading = pick (sinceLast e) (r .reading) (e .count);
+  time = pick (sinceLast e) (r .time) (e .time);
 }
 
 -- the row of a key, if there is one; its life count, 0 where there is none; the row that an entry of this key is added up to

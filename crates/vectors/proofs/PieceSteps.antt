@@ -4,21 +4,21 @@ use mathlib.Core.List.{List, []}
 use mathlib.Core.Path.{_≡_, sym, subst}
 use Prim.Native.Nat.{ℕ, suc, _+_, _-_, _≤_, _<_}
 use native.Mathlib.Omega.{arith}
-use lib.ListN.{length, take, drop, replicate, length-take, length-drop}
+use lib.ListN.{length, take, drop, length-take, length-drop}
 use Rattle.octets.specs.Numbers.{Octets}
 use Rattle.octets.proofs.Parts.{Octets-drop, Octets-take}
-use Rattle.ledger.specs.Ledgers.{ledgerCells, rowsOf, cellsOf}
+use Rattle.ledger.specs.Ledgers.{rowsOf, cellsOf}
 use Rattle.ledger.specs.Steps.{Kept}
-use Rattle.ledger.proofs.CellLaws.{kept-of, ruled-none, fresh-cells}
+use Rattle.ledger.proofs.CellLaws.{kept-of, ruled-none}
 use Rattle.feed.specs.Runs.{state, runOver, doneOf}
 use Rattle.feed.specs.declared.run.Done.{Done}
 use Rattle.feed.specs.declared.totals.Totals.{Totals}
 use Rattle.feed.proofs.KeptRuns.{kept-run}
 use Rattle.feed.proofs.RunEnds.{done-within}
 
--- cells of zeros keep the rules
-pub fresh-kept : Kept (replicate ledgerCells 0)
-fresh-kept = subst Kept (sym fresh-cells) (kept-of [] ruled-none)
+-- a fresh ledger keeps the rules
+pub fresh-kept : (l : List ℕ) → l ≡ cellsOf [] → Kept l
+fresh-kept l e = subst Kept (sym e) (kept-of [] ruled-none)
 
 -- so many octets have come; those from an offset on wait, and the ledger keeps the rules
 pub record Waits (s : List ℕ) (from to : ℕ) (l : List ℕ) : Type 0 where

@@ -7,6 +7,7 @@ use feed::run::run;
 use feed::totals::Totals;
 use feed::totals::ZEROS;
 use ledger::cells::CELLS;
+use ledger::fresh;
 use text::more;
 use text::number;
 
@@ -54,7 +55,8 @@ fn say_totals(text: &mut [u8], held: usize, totals: Totals) -> usize {
 
 // The totals, row count and places.
 pub(crate) fn say_feed(s: &[u8], text: &mut [u8], held: usize, piece: usize) -> usize {
-    let mut cells = [0u64; CELLS];
+    let ledger = fresh();
+    let mut cells = ledger.cells;
     let totals = run_pieces(&mut cells, s, piece);
     let at = say_totals(text, held, totals);
     say_rows(text, at, &cells)

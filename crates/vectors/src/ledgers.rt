@@ -1,10 +1,11 @@
 // The ledger layer's cases. A ledger is given as octets, so that one that breaks the rules can be said too: the row count (8), then 256
-// places of key (4), life count (8) and reading (4).
+// places of key (4), life count (8), reading (4) and time (4, all ones where none is known).
 use crate::case::unknown;
 use ledger::Answer;
 use ledger::Ledger;
 use ledger::cells::CELLS;
 use ledger::cells::COUNT;
+use ledger::cells::NO_TIME;
 use ledger::cells::ROWS;
 use ledger::cells::Row;
 use ledger::cells::put_row;
@@ -15,7 +16,7 @@ use text::more;
 use text::number;
 
 // The octets of a ledger.
-const SIZE: usize = 4104;
+const SIZE: usize = 5128;
 
 // The number of four octets, and of eight; past the end there are zeros.
 fn four(s: &[u8], at: usize) -> u32 {
@@ -37,11 +38,12 @@ pub(crate) fn ledger_of(s: &[u8]) -> Ledger {
     cells[COUNT] = eight(s, 0);
     let mut i: usize = 0;
     while i < ROWS {
-        let at = 8 + 16 * i;
+        let at = 8 + 20 * i;
         let row = Row {
             key: four(s, at) as u64,
             life: eight(s, at + 4),
             reading: four(s, at + 12) as u64,
+            time: four(s, at + 16) as u64,
         };
         put_row(&mut cells, i, row);
         i += 1;
@@ -49,12 +51,12 @@ pub(crate) fn ledger_of(s: &[u8]) -> Ledger {
     Ledger { cells }
 }
 
-// A place that is not all zero: its number from 0, key, life count and reading.
+// A place that is not empty: its number from 0, key, life count, reading and time.
 fn say_place(text: &mut [u8], held: usize, i: usize, row: Row) -> usize {
-    if (row.key == 0) & (row.life == 0) & (row.reading == 0) {
+    if (row.key == 0) & (row.life == 0) & (row.reading == 0) & (row.time == NO_TIME) {
         return held;
     }
-    let values = [i as u64, row.key, row.life, row.reading];
+    let values = [i as u64, row.key, row.life, row.reading, row.time];
     more(text, held, &values)
 }
 

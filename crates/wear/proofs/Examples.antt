@@ -14,7 +14,7 @@ use Rattle.wear.specs.Sheets.{sheetOf}
 use Rattle.wear.specs.Tells.{refusedWords, faultWords, unreadWords}
 
 row : Row
-row = record { key = 0x01021204; life = 185; reading = 30 }
+row = record { key = 0x01021204; life = 185; reading = 30; time = 128 }
 
 totals : Totals
 totals = record { accepted = 4; refused = 0; posted = 4; unposted = 0 }

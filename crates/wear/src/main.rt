@@ -17,6 +17,7 @@ use crate::input::take_turn;
 use crate::reads::Going;
 use feed::totals::ZEROS;
 use ledger::cells::CELLS;
+use ledger::fresh;
 
 // Turns until the run is over or a read fails. A proved loop has to end, and nothing says that the input does: it counts its turns down, from a
 // number that no run uses up.
@@ -66,7 +67,8 @@ fn print(cells: &[u64; CELLS], last: Turn)
 // One buffer that holds the longest block twice over, and one ledger, whatever the length of the input.
 fn main() {
     let mut buffer = [0u8; 131072];
-    let mut cells = [0u64; CELLS];
+    let ledger = fresh();
+    let mut cells = ledger.cells;
     let tells = 1 < os::arg_count();
     let last = turns(&mut buffer, &mut cells, tells);
     let going = last.going;

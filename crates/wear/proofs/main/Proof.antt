@@ -2,12 +2,11 @@
 use Prim.Native.Nat.{ℕ}
 use borrow.Author.Needs.{needs}
 use lib.ListN.{length-replicate}
-use Rattle.ledger.proofs.CellLaws.{fresh-cells}
 use Rattle.wear.proofs.main.Statement.{statement}
 use Rattle.wear.proofs.main.Tie as tie
 
 turns-requires : tie.Need-turns-requires
-turns-requires c κs = (length-replicate {A = ℕ} 131072 0, fresh-cells)
+turns-requires c κs = (length-replicate {A = ℕ} 131072 0, c .before .before .before .before .fresh .ensures)
 
 print-requires : tie.Need-print-requires
 print-requires c κs =
@@ -30,6 +29,7 @@ pub main-spec : {M : Type 1} → statement M
 main-spec =
     tie.close
     (tie.spec
+    (λ c κs. search needs)
     (λ c κs. search needs)
     (λ c. search needs)
     turns-requires

@@ -20,4 +20,7 @@ put-row-spec =
     (λ c. search needs)
     (λ c. search needs)
     (λ c. search needs)
+    (λ c. search needs)
+    (λ c. search needs)
+    (λ c. search needs)
     (λ c. put-numbers (c .args .cells .now) (c .args .i) (asRow (c .args .row))))

@@ -22,9 +22,10 @@ returns c =
 
 returns-2 : tie.Need-returns-2
 returns-2 c =
-    let z = c .before .before in
-    let other = has-not _ _ _ (z .pre .1) (sym (c .before .holds .ensures) ∙ c .if1 .left) in
-    ap (orNew (z .args .key)) (sym (found-none _ _ _ (z .pre .1) other (z .pre .0)))
+    let h = c .before .before in
+    let z = h .before in
+    let other = has-not _ _ _ (z .pre .1) (sym (h .holds .ensures) ∙ c .before .if1 .left) in
+    c .new-row .ensures ∙ ap (orNew (z .args .key)) (sym (found-none _ _ _ (z .pre .1) other (z .pre .0)))
 
 pub held-spec : {M : Type 1} → statement M
-held-spec = tie.close (tie.spec (λ c κs. search needs) row-at-requires returns returns-2)
+held-spec = tie.close (tie.spec (λ c κs. search needs) row-at-requires returns (λ c κs. search needs) returns-2)

@@ -48,7 +48,7 @@ loop-again c =
     let t = e .before .before .before in
     let l = t .before .before in
     let d = a .add-entry .ensures in
-    steps.add-more _ _ _ _ _ (l .loop .inv) _ (nth e) (t .if1 .taken) (omega (arith, l .before .before .good)) _ (sym (d .0) ∙ c .if2 .left) (d .1 (c .if2 .left))
+    steps.add-more _ _ _ _ _ (l .loop .inv) _ (nth e) (t .if1 .taken) (omega (arith, l .before .before .good)) (l .before .before .pre .1 .day) _ (sym (d .0) ∙ c .if2 .left) (d .1 (c .if2 .left))
 
 returns-2 : tie.Need-returns-2 Inv-loop μ-loop
 returns-2 c =

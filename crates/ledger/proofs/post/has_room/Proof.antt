@@ -35,7 +35,7 @@ add-rows c =
         arith,
         z .pre .0 .few,
         t .loop-test .taken,
-        z .pre .1,
+        z .pre .1 .entries,
         steps.count-fits _ _ _ _ _ _ (l .loop .inv) _ _ (c .new-rows .ensures),
       );
     }

@@ -52,7 +52,7 @@ loop-again c =
     let e = l .before in
     let z = e .before .before .before .before .before in
     known-more _ _ _ (z .pre .0) _ (known e) _ _ (l .loop .inv) _ (x .counter .ensures) _ (y .entry-of .ensures) (t .if2 .taken)
-    (omega (arith, z .good)) _ (c .add-at .ensures)
+    (omega (arith, z .good)) (z .pre .1 .day) _ (c .add-at .ensures)
 
 -- where an entry has been read: its row's place
 in-places : (x : tie.After-counter Inv-loop μ-loop) → getD (places (x .before .before .before .before)) (x .counter .result .typ) 0 < 256

@@ -1,4 +1,4 @@
--- `is_empty`: the three tests are the definition's. Assumes nothing.
+-- `is_empty`: the tests are the definition's. Assumes nothing.
 use mathlib.Core.Path.{refl}
 use Rattle.ledger.proofs.rules.is_empty.Statement.{statement}
 use Rattle.ledger.proofs.rules.is_empty.Tie as tie

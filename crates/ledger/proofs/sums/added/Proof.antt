@@ -1,4 +1,6 @@
 -- `added`. Assumes nothing.
+use mathlib.Core.Path.{sym, _∙_}
+use borrow.Author.Needs.{needs}
 use borrow.Author.Tests.{eq-eqb, ne-eqb, le-leb, lt-leb}
 use Rattle.ledger.proofs.sums.added.Statement.{statement}
 use Rattle.ledger.proofs.sums.added.Tie as tie
@@ -7,12 +9,27 @@ pub added-spec : {M : Type 1} → statement M
 added-spec =
     tie.close
     (tie.spec
-    (λ c. rw (eq-eqb (c .before .args .reference) 1 (c .if1 .taken)))
-    (λ c. rw (
-      ne-eqb (c .before .before .args .reference) 1 (c .before .if1 .left),
-      le-leb (c .before .before .args .reading) (c .before .before .args .count) (c .if2 .taken),
+    (λ c. rw (eq-eqb (c .before .before .args .entry .reference) 1 (c .if1 .taken)))
+    (λ c κs. search needs)
+    (λ c. let m = c .before in
+    let e = m .before in
+    rw (ne-eqb (e .before .before .args .entry .reference) 1 (e .if1 .left), sym (m .is-midnight .ensures) ∙ c .if2 .taken))
+    (λ c. let t = c .before .before in
+    let f = t .before .before .before in
+    let m = f .before in
+    let e = m .before in
+    let a = e .before .before .args in
+    rw (
+      ne-eqb (a .entry .reference) 1 (e .if1 .left),
+      sym (m .is-midnight .ensures) ∙ f .if2 .left,
+      le-leb (a .row .reading) (a .entry .count) (t .if3 .taken),
     ))
-    (λ c. rw (
-      ne-eqb (c .before .before .args .reference) 1 (c .before .if1 .left),
-      lt-leb (c .before .before .args .reading) (c .before .before .args .count) (c .if2 .left),
+    (λ c. let f = c .before .before .before in
+    let m = f .before in
+    let e = m .before in
+    let a = e .before .before .args in
+    rw (
+      ne-eqb (a .entry .reference) 1 (e .if1 .left),
+      sym (m .is-midnight .ensures) ∙ f .if2 .left,
+      lt-leb (a .row .reading) (a .entry .count) (c .if3 .left),
     )))
