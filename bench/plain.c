@@ -51,9 +51,9 @@ struct walk {
     const uint8_t *at, *end;
 };
 
-/* A statistics report of the block at hand: the key of its counter of TYPE 0, and its entries. */
+/* A statistics report of the block at hand: the key of its counter of TYPE 0, its time, and its entries. */
 struct report {
-    uint32_t key;
+    uint32_t key, time;
     unsigned count;
     const uint8_t *entries;
 };
@@ -63,9 +63,10 @@ struct reports {
     struct report report[MOST_REPORTS];
 };
 
+/* The time is that of the last entry from midnight; 0, than which none is earlier, until there is one. */
 struct row {
     uint64_t life;
-    uint32_t reading;
+    uint32_t reading, time;
 };
 
 /* Rows rise by key; the keys stand apart, as they are what is searched. */
@@ -188,6 +189,7 @@ static enum refusal record_23(struct walk *walk, struct reports *reports)
     const unsigned counted = MARK(1) | MARK(3) | MARK(9);
     const uint8_t *source = NULL, *entries = NULL;
     unsigned marks, type = 0, service = 0, count = 0;
+    uint32_t time = 0;
 
     TRY(specification(walk, 2, spare, &marks));
     if (marks & MARK(1)) {
@@ -202,8 +204,10 @@ static enum refusal record_23(struct walk *walk, struct reports *reports)
         TRY(pass(walk, 1));
         service = walk->at[-1];
     }
-    if (marks & MARK(4))
+    if (marks & MARK(4)) {
         TRY(time_of_day(walk));
+        time = number(walk->at - 3, 3);
+    }
     if (marks & MARK(5))
         TRY(extended(walk, 1));
     if (marks & MARK(6))
@@ -221,7 +225,8 @@ static enum refusal record_23(struct walk *walk, struct reports *reports)
     if ((marks & mandatory) != mandatory)
         return PRESENCE_BROKEN;
     if (type == 3 && (marks & counted) == counted)
-        reports->report[reports->count++] = (struct report){number(source, 2) << 16 | service << 8, count, entries};
+        reports->report[reports->count++] =
+            (struct report){number(source, 2) << 16 | service << 8, time, count, entries};
     return ACCEPTED;
 }
 
@@ -332,15 +337,17 @@ static void insert(struct ledger *ledger, uint32_t key, struct row row)
     ledger->count++;
 }
 
-/* Adds up an entry, and tells whether the life count would pass 2^64 - 1. */
-static inline bool add_up(struct row *row, const uint8_t *entry)
+/* Adds up an entry of a record with this time, and tells whether the life count would pass 2^64 - 1. From midnight a
+ * smaller count, or an earlier time, is another day's; both are asked without a branch, as neither is foreseen. */
+static inline bool add_up(struct row *row, const uint8_t *entry, uint32_t time)
 {
     bool from_midnight = !(entry[1] & 0x80);
     uint32_t count = number(entry + 2, 4), more = count;
     if (from_midnight) {
-        if (count >= row->reading)
+        if ((count >= row->reading) & (time >= row->time))
             more = count - row->reading;
         row->reading = count;
+        row->time = time;
     }
     row->life += more;
     return row->life < more;
@@ -368,10 +375,10 @@ static enum refusal post(struct ledger *ledger, const struct report *report)
             unsigned at = find(ledger, report->key | type);
             bool is_held = at < ledger->count && ledger->key[at] == (report->key | type);
             aside[type].at = is_held ? at : ROWS;
-            aside[type].row = is_held ? ledger->row[at] : (struct row){0, 0};
+            aside[type].row = is_held ? ledger->row[at] : (struct row){0, 0, 0};
             new += !is_held;
         }
-        passes |= add_up(&aside[type].row, entry);
+        passes |= add_up(&aside[type].row, entry, report->time);
     }
     if (ledger->count + new > ROWS)
         return NO_ROOM;

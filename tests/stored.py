@@ -1,12 +1,13 @@
-"""The stored cases of each operation, the stored feeds of `wear`, and a stored record in cells; for tests/vectors and tests/outside. An independent
-program made them from document 01 as 02 §1 and §2 amend it; those of post, load and store from 01 alone, with one post amended (docs/DECISIONS.md 9)."""
+"""The stored cases of each operation, the stored feeds of `wear`, a stored record in cells, and the places of a stored ledger; for tests/vectors and
+tests/outside. An independent program made them from document 01 as 02 amends it: by §1 and §2, post, store and the feeds by §4 too. Those of load
+are from 01 alone; no time is known in them."""
 import json
 import os
 import sys
 
 TESTS = os.path.dirname(os.path.abspath(__file__))
 
-CASES = {'read': 400, 'step': 400, 'entry': 300, 'rewrite': 400, 'write': 400, 'post': 120, 'load': 120, 'store': 120}
+CASES = {'read': 400, 'step': 400, 'entry': 300, 'rewrite': 400, 'write': 400, 'post': 120, 'load': 120, 'store': 100}
 FEEDS = ['feed1', 'feed2', 'feed3']
 
 # The cells of a record in wear.h's order, behind category and marks: an item, and its value's name in the stored cases.
@@ -30,6 +31,10 @@ FIELDS = {
 
 # The room of an output that is large enough for any block.
 ENOUGH = 65540
+
+# A place without a row: key, life count, reading, and no known time. The latest time, in 1/128 s.
+EMPTY = (0, 0, 0, None)
+LATEST = 11059327
 
 
 def must(holds, text):
@@ -62,6 +67,11 @@ def feeds():
 
 def room_of(case):
     return ENOUGH if case['room'] is None else case['room']
+
+
+def places_of(ledger):
+    """The places that are given, as key, life count, reading and time, None where none is known; the others are empty."""
+    return [(((sac * 256 + sic) * 256 + octet) * 256 + typ, life, reading, time) for sac, sic, octet, typ, life, reading, time in ledger['places']]
 
 
 def items_of(record):

@@ -1,8 +1,9 @@
 /* compare SEED COUNT <LINES: holds the library to the lines of vectors.py and to the model, on COUNT inputs made here.
  *
  * Both sides get equal copies of what is lent, each copy at a page with no access; an empty slice now and then is NULL.
- * Compared are the answer, every lent cell and octet afterwards, and the octets beside a copy. Of a feed in pieces the
- * library alone is asked: whether it gives what it gives for the whole. */
+ * Compared are the answer, every lent cell and octet afterwards, and the octets beside a copy. A feed in pieces, where the
+ * library gets its own page back in each call, is held to one run of the model over the whole, which forgets the times
+ * of the rows where a piece ends. */
 #define _DEFAULT_SOURCE
 #include <inttypes.h>
 #include <setjmp.h>
@@ -17,7 +18,7 @@
 #include "model.h"
 #include "wear.h"
 
-/* PIECES is FEED once more, with the same feed whole and in pieces. */
+/* PIECES is FEED once more, call after call. */
 enum function { READ, STEP, ENTRY, WRITE, REWRITE, POST, FEED, PIECES, FUNCTIONS };
 static const char *const function_names[FUNCTIONS] = {"read", "step", "entry", "write", "rewrite", "post", "feed",
                                                       "pieces"};
@@ -33,6 +34,8 @@ static const uint32_t posts_get = 0x0E001;
 enum { ENDINGS = 3 };
 static const char *const ending_names[ENDINGS] = {
     [WEAR_ENDED] = "ended", [WEAR_STOPPED] = "stopped", [WEAR_MORE] = "more"};
+static const char *const time_names[MODEL_TIMES] = {
+    [MODEL_UNKNOWN] = "unknown", [MODEL_EARLIER] = "earlier", [MODEL_EQUAL] = "equal", [MODEL_LATER] = "later"};
 
 struct side {
     const char *name;
@@ -180,7 +183,12 @@ static struct {
 } stored;
 
 static uint64_t seed, reported, cases[FUNCTIONS], differing[FUNCTIONS], answers[FUNCTIONS][ANSWERS];
-static uint64_t endings[FUNCTIONS][ENDINGS], nulls[FUNCTIONS][SLICES], posts[ANSWERS];
+static uint64_t endings[FUNCTIONS][ENDINGS], nulls[FUNCTIONS][SLICES];
+
+/* Of every eighth feed what it tries, and how many have a midnight that the time alone tells; of feeds in pieces how many
+ * give otherwise than the whole. */
+static struct model_tried tried;
+static uint64_t told_by_time, otherwise;
 
 static const char *lent_difference(enum slice slice)
 {
@@ -282,14 +290,15 @@ static void print_answers(void)
     }
 }
 
-/* How a feed left off, and of every eighth what its posts got. */
+/* How a feed left off, and of every eighth what it tries. */
 static void note_feed(void)
 {
-    uint64_t cells[WEAR_FEED_CELLS];
+    uint64_t cells[WEAR_FEED_CELLS], before = tried.times[MODEL_EARLIER];
     memcpy(cells, lent[MODEL][CELLS], sizeof cells);
     endings[FEED][cells[WEAR_FEED_LEFT_OFF]]++;
     if (cases[FEED] % 8 == 0)
-        model_posts(given_page, given.page, given_octets, given.octets, posts);
+        model_tries(given_page, given.page, given_octets, given.octets, &tried);
+    told_by_time += tried.times[MODEL_EARLIER] > before;
 }
 
 /* What a case has tried, as the model sees it. */
@@ -562,16 +571,26 @@ static size_t starts[MOST_OCTETS / 4], records;
 static unsigned category;
 static enum fault fault;
 static bool crowded;                /* each report has many counters, so that a few fill a ledger */
+enum { FEW_TIMES = 4 };
+static bool busy;                   /* all reports have few counters and few times, so that a row has many */
+static uint64_t busy_times[FEW_TIMES];
 
 static void put(uint64_t octet)
 {
     piece[pieces++] = (uint8_t)octet;
 }
 
+/* Any of a day; or one at an edge, or in a leap second. */
+static uint64_t some_time(void)
+{
+    return one_in(2) ? below(MODEL_LATEST + 1)
+                     : ONE_OF(0, 1, 127, 128, 65535, 65536, 11059199, 11059200, 11059200 + below(128), MODEL_LATEST - 1,
+                              MODEL_LATEST);
+}
+
 static void put_time(void)
 {
-    uint64_t time = one_in(2) ? below(MODEL_LATEST + 1)
-                             : ONE_OF(0, 1, 127, 128, 65535, 65536, 11059199, 11059200, MODEL_LATEST - 1, MODEL_LATEST);
+    uint64_t time = busy ? one_of(busy_times, FEW_TIMES) : some_time();
     if (fault == BAD_TIME)
         time = ONE_OF(MODEL_LATEST + 1, MODEL_LATEST + 2, MODEL_LATEST + 256, 0xA9BFFF, 0xFFFFFF, 0xB00000);
     put(time >> 16);
@@ -616,7 +635,7 @@ static void put_statistics(void)
     put(count);
     for (uint64_t i = 0; i < count; i++) {
         uint64_t number = counted();
-        put(few_types ? ONE_OF(0, 1, 3, 4, 20, 255) : chance());
+        put(busy ? ONE_OF(3, 4) : few_types ? ONE_OF(0, 1, 3, 4, 20, 255) : chance());
         put(ONE_OF(0, 0, 0x80, 0x80, 0x7F, 0xFF, chance()));
         for (int shift = 24; shift >= 0; shift -= 8)
             put(number >> shift);
@@ -650,13 +669,13 @@ static void put_content(void)
 /* 010 and the octet of 015 have few values, so that reports meet rows of a page. */
 static void put_source(void)
 {
-    put(one_in(8) ? chance() : ONE_OF(1, 1, 2, 255));
-    put(one_in(8) ? chance() : ONE_OF(0, 2));
+    put(busy ? 1 : one_in(8) ? chance() : ONE_OF(1, 1, 2, 255));
+    put(busy ? 2 : one_in(8) ? chance() : ONE_OF(0, 2));
 }
 
 static uint64_t service(void)
 {
-    return one_in(8) ? chance() : ONE_OF(0x12, 0x13, 0xFF);
+    return busy ? 0x12 : one_in(8) ? chance() : ONE_OF(0x12, 0x13, 0xFF);
 }
 
 static void put_item_23(unsigned field, uint64_t type)
@@ -1297,7 +1316,7 @@ static void gather(void)
 static void make_feed_block(size_t count)
 {
     uint64_t kind = below(24);
-    make_block(count, LONGEST, !one_in(4), kind < 3 ? 1 + below(FAULTS - 1) : NO_FAULT);
+    make_block(count, LONGEST, busy || !one_in(4), kind < 3 ? 1 + below(FAULTS - 1) : NO_FAULT);
     if (kind == 3)
         given_octets[0] = (uint8_t)ONE_OF(0, 22, 24, 48, 64, 66, 241, 243, 255);
     else if (kind == 4)
@@ -1327,7 +1346,7 @@ static void end_feed(void)
 
 static uint64_t feed_blocks(void)
 {
-    return one_in(20) ? 0 : one_in(12) ? 1 + below(20) : 1 + below(4);
+    return one_in(20) ? 0 : busy ? 2 + below(8) : one_in(12) ? 1 + below(20) : 1 + below(4);
 }
 
 /* Some blocks, or none; now and then some of the longest. The keys of one report are noted for the page. */
@@ -1335,6 +1354,9 @@ static void make_feed_octets(void)
 {
     bool longest = given.index % 1009 == 0;
     crowded = one_in(50);
+    busy = !crowded && one_in(2);
+    for (size_t i = 0; i < FEW_TIMES; i++)
+        busy_times[i] = some_time();
     gathered_octets = 0;
     reported_count = 0;
     for (uint64_t blocks = longest ? 2 + below(2) : feed_blocks(); blocks > 0; blocks--) {
@@ -1344,7 +1366,7 @@ static void make_feed_octets(void)
             note_reported_keys();
         gather();
     }
-    crowded = false;
+    crowded = busy = false;
     end_feed();
     memcpy(given_octets, gathered, gathered_octets);
     given.octets = gathered_octets;
@@ -1381,7 +1403,8 @@ struct fed {
     uint64_t cells[WEAR_FEED_CELLS];
 };
 
-static struct fed whole, in_pieces;
+static struct fed whole, forgetting;    /* the model's: in one call, and with times forgotten between the pieces */
+static struct fed in_pieces;            /* the library's */
 static size_t ends[MOST_CUTS + 1];      /* of the pieces */
 
 static size_t cut_feed(void)
@@ -1440,34 +1463,51 @@ static void feed_in_pieces(size_t count)
     memcpy(in_pieces.cells, sums, sizeof sums);
 }
 
+static void print_fed(const char *name, const struct fed *fed)
+{
+    printf(" %s: %" PRIu32 "\n", name, fed->answer);
+    print_cells("cells", (const uint8_t *)fed->cells, sizeof fed->cells);
+    print_octets("page", fed->page, sizeof fed->page);
+}
+
 static void print_pieces(size_t count)
 {
-    print_case("a feed in pieces gives otherwise than the whole");
+    print_case("a feed in pieces gives otherwise than the model");
     printf("  pieces end at:");
     for (size_t i = 0; i < count; i++)
         printf(" %zu", ends[i]);
-    printf("\n whole: %" PRIu32 "\n", whole.answer);
-    print_cells("cells", (const uint8_t *)whole.cells, sizeof whole.cells);
-    print_octets("page", whole.page, sizeof whole.page);
-    printf(" in pieces: %" PRIu32 "\n", in_pieces.answer);
-    print_cells("cells", (const uint8_t *)in_pieces.cells, sizeof in_pieces.cells);
-    print_octets("page", in_pieces.page, sizeof in_pieces.page);
+    printf("\n");
+    print_fed("model", &forgetting);
+    print_fed("library", &in_pieces);
+}
+
+/* A run of the model that forgets the times where each of the first pieces ends. */
+static void feed_model(size_t forgotten, struct fed *fed)
+{
+    memset(fed, 0, sizeof *fed);
+    fed->answer = model_pieces(given_page, given.page, given_octets, given.octets, given.more, ends, forgotten,
+                               fed->page, sizeof fed->page, fed->cells, WEAR_FEED_CELLS);
+}
+
+static bool is_same(const struct fed *a, const struct fed *b)
+{
+    return a->answer == b->answer && !memcmp(a->cells, b->cells, sizeof a->cells) &&
+           !memcmp(a->page, b->page, a->cells[WEAR_FEED_PAGE]);
 }
 
 static void run_pieces(void)
 {
     size_t count = cut_feed();
-    memset(&whole, 0, sizeof whole);
+    feed_model(0, &whole);
+    feed_model(count - 1, &forgetting);
     memset(&in_pieces, 0, sizeof in_pieces);
-    feed_library(given_page, given.page, 0, given.octets, given.more, &whole);
     feed_in_pieces(count);
     cases[PIECES]++;
-    answers[PIECES][whole.answer % ANSWERS]++;
-    if (whole.answer == WEAR_ACCEPTED)
-        endings[PIECES][whole.cells[WEAR_FEED_LEFT_OFF] % ENDINGS]++;
-    size_t octets = whole.cells[WEAR_FEED_PAGE] % (WEAR_PAGE_MOST + 1);
-    if (whole.answer == in_pieces.answer && !memcmp(whole.cells, in_pieces.cells, sizeof whole.cells) &&
-        !memcmp(whole.page, in_pieces.page, octets))
+    answers[PIECES][forgetting.answer]++;
+    if (forgetting.answer == WEAR_ACCEPTED)
+        endings[PIECES][forgetting.cells[WEAR_FEED_LEFT_OFF]]++;
+    otherwise += !is_same(&whole, &forgetting);
+    if (is_same(&forgetting, &in_pieces))
         return;
     differing[PIECES]++;
     if (reported++ < REPORTED)
@@ -1532,17 +1572,29 @@ static bool told_numbers(const uint64_t *counts, uint32_t have_to_be)
     return good;
 }
 
-/* How a feed left off, and what its posts got. */
+/* What feeds try: what their posts get, and how times stand where they decide. */
+static bool told_tries(bool all)
+{
+    bool good = true;
+    printf("; posts");
+    good = told_numbers(tried.posts, all ? posts_get : 0) && good;
+    printf("; times");
+    for (enum model_time time = 0; time < MODEL_TIMES; time++)
+        good = told_count(time_names[time], tried.times[time], all) && good;
+    return told_count("feeds with an earlier one", told_by_time, all) && good;
+}
+
+/* How a feed left off, and what else is noted. */
 static bool told_feed(enum function function, bool all)
 {
     bool good = true;
     printf("; left off");
     for (size_t ending = 0; ending < ENDINGS; ending++)
         good = told_count(ending_names[ending], endings[function][ending], all) && good;
-    if (function != FEED)
-        return good;
-    printf("; posts");
-    return told_numbers(posts, all ? posts_get : 0) && good;
+    if (function == FEED)
+        return told_tries(all) && good;
+    printf(";");
+    return told_count("otherwise than the whole", otherwise, all) && good;
 }
 
 static bool told_nulls(enum function function)
@@ -1576,7 +1628,8 @@ static bool told(const char *title, bool all)
     memset(answers, 0, sizeof answers);
     memset(endings, 0, sizeof endings);
     memset(nulls, 0, sizeof nulls);
-    memset(posts, 0, sizeof posts);
+    memset(&tried, 0, sizeof tried);
+    told_by_time = otherwise = 0;
     return good;
 }
 

@@ -1,4 +1,4 @@
-/* Documents 01 and 02 §1 and §2 in plain C: tables of items and categories, and the rules over them. "01" below is the first. */
+/* Documents 01 and 02 §1, §2 and §4 in plain C: tables of items and categories, and the rules over them. "01" below is the first. */
 #include "model.h"
 
 #include <stdbool.h>
@@ -594,7 +594,7 @@ uint32_t model_rewrite(const uint8_t *octets, size_t n, uint8_t *out, size_t m, 
     return ACCEPTED;
 }
 
-/* ---- the ledger (01, "Ledger") ---- */
+/* ---- the ledger (01, "Ledger"; 02 §4) ---- */
 
 enum { MOST_ROWS = 256, MOST_ENTRIES = 255, PAGE_HEAD = 8, KEY_OCTETS = 4, COUNT_OCTETS = 12 };
 
@@ -602,6 +602,8 @@ struct row {
     uint32_t key;                   /* SAC, SIC, the octet of 015, TYPE */
     uint64_t life;
     uint32_t reading;
+    bool is_timed;                  /* whether the time of its last entry from midnight is known */
+    uint32_t time;
 };
 
 /* There is room for one report's new rows behind a full ledger, so that they can be counted. */
@@ -615,6 +617,7 @@ static size_t page_octets(size_t rows)
     return PAGE_HEAD + rows * (KEY_OCTETS + COUNT_OCTETS);
 }
 
+/* 02 §4: a page has no times, and loading gives unknown ones. */
 static enum refusal load_page(const uint8_t *page, size_t n, struct ledger *ledger)
 {
     if (n < PAGE_HEAD)
@@ -627,9 +630,9 @@ static enum refusal load_page(const uint8_t *page, size_t n, struct ledger *ledg
     ledger->rows = rows;
     for (size_t i = 0; i < rows; i++) {
         struct row *row = &ledger->row[i];
-        row->key = (uint32_t)number_at(page + PAGE_HEAD + KEY_OCTETS * i, 4);
-        row->life = number_at(page + readings + COUNT_OCTETS * i, 8);
-        row->reading = (uint32_t)number_at(page + readings + COUNT_OCTETS * i + 8, 4);
+        *row = (struct row){.key = (uint32_t)number_at(page + PAGE_HEAD + KEY_OCTETS * i, 4),
+                            .life = number_at(page + readings + COUNT_OCTETS * i, 8),
+                            .reading = (uint32_t)number_at(page + readings + COUNT_OCTETS * i + 8, 4)};
         if ((i > 0 && row[-1].key >= row->key) || row->reading > row->life)
             return RULES_BROKEN;
     }
@@ -650,7 +653,7 @@ static void store_page(const struct ledger *ledger, uint8_t *out)
     }
 }
 
-/* The row of a key; a new one starts at 0 and 0. */
+/* The row of a key; a new one starts at 0 and 0, with no known time. */
 static struct row *row_of(struct ledger *ledger, uint32_t key)
 {
     size_t place = 0;
@@ -664,17 +667,33 @@ static struct row *row_of(struct ledger *ledger, uint32_t key)
     return &ledger->row[place];
 }
 
-/* Adding up one entry. From the last report the count is added; from midnight what it grew by, or all of it. */
-static enum refusal add_up(struct row *row, bool from_last_report, uint32_t count)
+/* How the time of an entry's record stands to its row's. */
+static enum model_time standing(const struct row *row, uint32_t time)
 {
-    uint64_t added = count;
-    if (!from_last_report && count >= row->reading)
-        added = count - row->reading;
+    if (!row->is_timed)
+        return MODEL_UNKNOWN;
+    return time < row->time ? MODEL_EARLIER : time == row->time ? MODEL_EQUAL : MODEL_LATER;
+}
+
+/* Adding up one entry of a record with this time. From the last report the count is added, and no more. From midnight
+ * what it grew by since the reading is; but all of it where it is smaller, or where the time is earlier than the row's,
+ * since a midnight lies between. */
+static enum refusal add_up(struct row *row, bool from_last_report, uint32_t count, uint32_t time,
+                           struct model_tried *tried)
+{
+    enum model_time stands = standing(row, time);
+    bool is_grown = !from_last_report && count >= row->reading;
+    uint64_t added = is_grown && stands != MODEL_EARLIER ? count - row->reading : count;
+    if (is_grown && row->reading > 0)
+        tried->times[stands]++;
     if (added > UINT64_MAX - row->life)
         return LIFE_PASSES;
     row->life += added;
-    if (!from_last_report)
+    if (!from_last_report) {
         row->reading = count;
+        row->is_timed = true;
+        row->time = time;
+    }
     return ACCEPTED;
 }
 
@@ -685,7 +704,8 @@ static bool is_statistics(const uint64_t *cells)
 }
 
 /* Posts a record that was read. Where it is refused the ledger is spoilt: the caller drops it. */
-static enum refusal post_record(struct ledger *ledger, const uint8_t *octets, const uint64_t *cells)
+static enum refusal post_record(struct ledger *ledger, const uint8_t *octets, const uint64_t *cells,
+                                struct model_tried *tried)
 {
     if (!is_statistics(cells))
         return NO_STATISTICS;
@@ -702,7 +722,7 @@ static enum refusal post_record(struct ledger *ledger, const uint8_t *octets, co
     for (uint64_t i = 0; i < cells[WEAR_ENTRIES]; i++) {
         get_parts(&statistics_23_120, first + 6 * i, values);
         struct row *row = row_of(ledger, service | (uint32_t)values[0]);
-        enum refusal refusal = add_up(row, values[1] == 1, (uint32_t)values[2]);
+        enum refusal refusal = add_up(row, values[1] == 1, (uint32_t)values[2], (uint32_t)cells[WEAR_TIME], tried);
         if (refusal)
             return refusal;
     }
@@ -725,7 +745,8 @@ static enum refusal post(struct ledger *ledger, const uint8_t *page, size_t n, c
     size_t next = 3;
     for (uint64_t i = 0; i <= number; i++)
         read_record(block.category, octets, block.len, next, &next, cells);
-    return post_record(ledger, octets, cells);
+    struct model_tried tried = {0};
+    return post_record(ledger, octets, cells, &tried);
 }
 
 uint32_t model_post(const uint8_t *page, size_t n, const uint8_t *octets, size_t m, uint64_t number, uint8_t *out,
@@ -754,7 +775,8 @@ static void copy_rows(struct ledger *to, const struct ledger *from)
 }
 
 /* Posts each record of an accepted block. One that is refused leaves the ledger as it was. */
-static void post_records(struct ledger *ledger, const uint8_t *octets, const struct block *block, uint64_t *answers)
+static void post_records(struct ledger *ledger, const uint8_t *octets, const struct block *block,
+                         struct model_tried *tried)
 {
     static struct ledger before;
     uint64_t cells[WEAR_CELLS];
@@ -762,10 +784,10 @@ static void post_records(struct ledger *ledger, const uint8_t *octets, const str
     for (size_t at = 3; at < block->len; at = next) {
         read_record(block->category, octets, block->len, at, &next, cells);
         copy_rows(&before, ledger);
-        enum refusal refusal = post_record(ledger, octets, cells);
+        enum refusal refusal = post_record(ledger, octets, cells, tried);
         if (refusal)
             copy_rows(ledger, &before);
-        answers[refusal]++;
+        tried->posts[refusal]++;
     }
 }
 
@@ -785,40 +807,55 @@ static size_t whole_len(const uint8_t *octets, size_t m, size_t at, bool more, u
     return 0;
 }
 
-/* Fills in all cells but the page's; answers has how often the posts got each number. */
-static void run_feed(struct ledger *ledger, const uint8_t *octets, size_t m, bool more, uint64_t *cells,
-                     uint64_t *answers)
+static void forget_times(struct ledger *ledger)
 {
-    size_t at = 0, len;
+    for (size_t i = 0; i < ledger->rows; i++)
+        ledger->row[i].is_timed = false;
+}
+
+/* Where the ledger goes through a page: when so many octets have come, behind the blocks that are whole by then. */
+struct pages {
+    const size_t *ends;
+    size_t count;
+};
+
+/* Fills in all cells but the page's. */
+static void run_feed(struct ledger *ledger, const uint8_t *octets, size_t m, bool more, struct pages pages,
+                     uint64_t *cells, struct model_tried *tried)
+{
+    size_t at = 0, page = 0, len;
     while ((len = whole_len(octets, m, at, more, &cells[WEAR_FEED_LEFT_OFF])) > 0) {
         struct block block;
+        for (; page < pages.count && pages.ends[page] < at + len; page++)
+            forget_times(ledger);
         if (read_block(octets + at, m - at, &block)) {
             cells[WEAR_FEED_REFUSED]++;
         } else {
             cells[WEAR_FEED_ACCEPTED]++;
-            post_records(ledger, octets + at, &block, answers);
+            post_records(ledger, octets + at, &block, tried);
         }
         at += len;
     }
     if (cells[WEAR_FEED_LEFT_OFF] == WEAR_STOPPED)
         cells[WEAR_FEED_REFUSED]++;
     cells[WEAR_FEED_USED] = at;
-    cells[WEAR_FEED_POSTED] = answers[ACCEPTED];
-    cells[WEAR_FEED_UNPOSTED] = answers[NO_ROOM] + answers[LIFE_PASSES];
+    cells[WEAR_FEED_POSTED] = tried->posts[ACCEPTED];
+    cells[WEAR_FEED_UNPOSTED] = tried->posts[NO_ROOM] + tried->posts[LIFE_PASSES];
 }
 
 static struct ledger fed;
 
-uint32_t model_feed(const uint8_t *page, size_t n, const uint8_t *octets, size_t m, uint32_t more, uint8_t *out,
-                    size_t p, uint64_t *cells, size_t k)
+static enum refusal feed(const uint8_t *page, size_t n, const uint8_t *octets, size_t m, bool more, struct pages pages,
+                         uint8_t *out, size_t p, uint64_t *cells, size_t k)
 {
     if (k < WEAR_FEED_CELLS)
         return OUTPUT_SHORT;
-    uint64_t counted[WEAR_FEED_CELLS] = {0}, answers[MODEL_ANSWERS] = {0};
+    uint64_t counted[WEAR_FEED_CELLS] = {0};
+    struct model_tried tried = {0};
     memset(cells, 0, sizeof counted);
     if (load_page(page, n, &fed))
         return RULES_BROKEN;
-    run_feed(&fed, octets, m, more != 0, counted, answers);
+    run_feed(&fed, octets, m, more, pages, counted, &tried);
     counted[WEAR_FEED_PAGE] = page_octets(fed.rows);
     if (counted[WEAR_FEED_PAGE] > p)
         return OUTPUT_SHORT;
@@ -827,9 +864,21 @@ uint32_t model_feed(const uint8_t *page, size_t n, const uint8_t *octets, size_t
     return ACCEPTED;
 }
 
-void model_posts(const uint8_t *page, size_t n, const uint8_t *octets, size_t m, uint64_t answers[MODEL_ANSWERS])
+uint32_t model_feed(const uint8_t *page, size_t n, const uint8_t *octets, size_t m, uint32_t more, uint8_t *out,
+                    size_t p, uint64_t *cells, size_t k)
+{
+    return feed(page, n, octets, m, more != 0, (struct pages){NULL, 0}, out, p, cells, k);
+}
+
+uint32_t model_pieces(const uint8_t *page, size_t n, const uint8_t *octets, size_t m, uint32_t more,
+                      const size_t *ends, size_t count, uint8_t *out, size_t p, uint64_t *cells, size_t k)
+{
+    return feed(page, n, octets, m, more != 0, (struct pages){ends, count}, out, p, cells, k);
+}
+
+void model_tries(const uint8_t *page, size_t n, const uint8_t *octets, size_t m, struct model_tried *tried)
 {
     uint64_t cells[WEAR_FEED_CELLS] = {0};
     if (load_page(page, n, &fed) == ACCEPTED)
-        run_feed(&fed, octets, m, false, cells, answers);
+        run_feed(&fed, octets, m, false, (struct pages){NULL, 0}, cells, tried);
 }

@@ -18,8 +18,21 @@ uint32_t model_post(const uint8_t *page, size_t n, const uint8_t *octets, size_t
 uint32_t model_feed(const uint8_t *page, size_t n, const uint8_t *octets, size_t m, uint32_t more, uint8_t *out,
                     size_t p, uint64_t *cells, size_t k);
 
-/* How often the posts of a feed get each number is added to `answers`, so that a test can tell what it has tried. */
+/* A feed whose ledger goes through a page `count` times: when ends[0] octets have come, ends[1], and so on, each time
+ * behind the blocks that are whole by then. A page has no times (02 §4): those of the rows are forgotten there. */
+uint32_t model_pieces(const uint8_t *page, size_t n, const uint8_t *octets, size_t m, uint32_t more,
+                      const size_t *ends, size_t count, uint8_t *out, size_t p, uint64_t *cells, size_t k);
+
+/* What a feed tries, so that a test can tell: how often its posts get each number; and how the record's time stands to
+ * the row's in entries from midnight at or above a reading that is not 0, where it decides what is added (02 §4). */
 enum { MODEL_ANSWERS = 18 };
-void model_posts(const uint8_t *page, size_t n, const uint8_t *octets, size_t m, uint64_t answers[MODEL_ANSWERS]);
+enum model_time { MODEL_UNKNOWN, MODEL_EARLIER, MODEL_EQUAL, MODEL_LATER, MODEL_TIMES };
+struct model_tried {
+    uint64_t posts[MODEL_ANSWERS];
+    uint64_t times[MODEL_TIMES];
+};
+
+/* Adds to `tried` what a feed tries. */
+void model_tries(const uint8_t *page, size_t n, const uint8_t *octets, size_t m, struct model_tried *tried);
 
 #endif

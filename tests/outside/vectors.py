@@ -1,4 +1,4 @@
-"""The stored cases and feeds, and document 01's examples, as lines for the program `compare`.
+"""The stored cases and feeds, and the documents' examples, as lines for the program `compare`.
 Octets are in hex, '-' for none, numbers in decimal; the answer comes last.
 
 read OCTETS            NUMBER OFFSET LEN COUNT
@@ -37,6 +37,15 @@ POSTED = [
     ('8000000005', '00010008000C00180102120400000000000000B90000001E'),
 ]
 
+# 02 §4, a busy day: of P8's counter 100 at 20:00, then 150 at 12:00, without and with 5 from the last report between. The entries, each with
+# time, REF and count, and the page after them in one feed. Posted from page to page no time is known, and the midnight stays hidden.
+EVENING, NOON = (72000 * 128, 0, 100), (43200 * 128, 0, 150)
+BUSY = [
+    ([EVENING, NOON], '00010008000C00180102120400000000000000FA00000096'),
+    ([EVENING, (43200 * 128, 0x80, 5), NOON], '00010008000C00180102120400000000000000FF00000096'),
+]
+HIDDEN = '00010008000C001801021204000000000000009600000096'
+
 # How a run over a feed leaves off, as wear.h numbers it.
 ENDED, STOPPED, MORE = range(3)
 
@@ -45,26 +54,31 @@ def line(*words):
     return ' '.join(str(word) or '-' for word in words)
 
 
+def report(key, time, reference, count):
+    """A block with a report of one entry; its counter's key is in hex."""
+    return '170013F140%s03%s%06X01%s%02X%08X' % (key[:4], key[4:6], time, key[6:], reference, count)
+
+
+def times_of(ledger):
+    """The known times of a ledger's rows, each with its row's key in hex and reading."""
+    rows = stored.places_of(ledger)[:ledger['count']]
+    return [('%08X' % key, time, reading) for key, _, reading, time in rows if time is not None]
+
+
 def page_of(ledger):
-    """A ledger's page, or None where a page cannot say it: over 256 rows, or something in a place past the rows. A page can say
-    rows that do not rise, or a reading above its life count."""
-    count, places = ledger['count'], [place[:6] for place in ledger['places']]
-    if count > 256 or any(any(place) for place in places[count:]):
+    """A ledger's page, or None where a page cannot say it: over 256 rows, a time past the latest, or something in a place past the
+    rows. A page can say rows that do not rise, or a reading above its life count. It leaves the times out."""
+    count, places = ledger['count'], stored.places_of(ledger)
+    if count > 256 or any(place != stored.EMPTY for place in places[count:]) or any(time > stored.LATEST for _, time, _ in times_of(ledger)):
         return None
-    places = (places + [[0] * 6] * count)[:count]
-    return page_of_rows([('%02X%02X%02X%02X' % tuple(place[:4]), *place[4:]) for place in places])
+    places = (places + [stored.EMPTY] * count)[:count]
+    return page_of_rows([('%08X' % key, life, reading) for key, life, reading, _ in places])
 
 
 def page_of_rows(rows):
     """The page of rows, each with its key in hex, life count and reading."""
     head = '%04X%04X%04X%04X' % (len(rows), 8, 8 + 4 * len(rows), 8 + 16 * len(rows))
     return head + ''.join([key for key, _, _ in rows] + ['%016X%08X' % (life, reading) for _, life, reading in rows])
-
-
-def idle_report(page):
-    """A statistics report of a page's first row that adds 0 from the last report, so that posting it gives the page back."""
-    sac_sic, octet, typ = page[16:20], page[20:22], page[22:24]
-    return '170013F140' + sac_sic + '03' + octet + '000000' + '01' + typ + '8000000000'
 
 
 def kept(page, room, number, out):
@@ -76,7 +90,25 @@ def kept(page, room, number, out):
         elif number == 0:
             out = after
         return line('post', page, block, 0, room, number, out)
-    return line('post', page, idle_report(page), 0, room, number, out)
+    return line('post', page, report(page[16:24], 0, 0x80, 0), 0, room, number, out)
+
+
+def is_alone(octets):
+    """Whether a block has one record, of 010, 000, 015, 070 and 120 alone."""
+    return octets[6:10].upper() == 'F140' and len(octets) // 2 == 13 + 6 * int(octets[24:26], 16)
+
+
+def post_line(case):
+    """A post from page to page, on which there are no times. Where some are known and may decide (0, 15), a feed: for each time a report with
+    the reading of its row, which changes nothing else, and then the block, if it has no other record."""
+    page, after, number, times = page_of(case['ledger']), page_of(case['after']), case['number'], times_of(case['ledger'])
+    if page is None or number not in (0, 15) or not times:
+        return page and line('post', page, case['in'], case['k'], stored.ENOUGH, number, after if number == 0 else '')
+    if not is_alone(case['in']):
+        return None
+    feed = ''.join(report(key, time, 0, reading) for key, time, reading in times) + case['in']
+    cells = [len(after) // 2, len(feed) // 2, ENDED, len(times) + 1, 0, len(times) + (number == 0), int(number == 15)]
+    return line('feed', page, feed, 0, stored.ENOUGH, 0, after, *cells)
 
 
 def line_of(case):
@@ -96,8 +128,7 @@ def line_of(case):
         cells = stored.cells_of(case['record'])
         return cells and line(op, *cells, case['source'], stored.room_of(case), number, case['out'])
     if op == 'post':
-        page = page_of(case['ledger'])
-        return page and line(op, page, case['in'], case['k'], stored.ENOUGH, number, page_of(case['after']) if number == 0 else '')
+        return post_line(case)
     if op == 'load':
         return kept(case['page'], stored.ENOUGH, number, case['page'] if number == 0 else '')
     page = page_of(case['ledger'])
@@ -146,21 +177,28 @@ def examples():
         yield line('post', page, P8 + entry, 0, stored.ENOUGH, 0, after)
         page = after
     yield from feed_lines(bytes.fromhex(''.join(P8 + entry for entry, _ in POSTED)), page, 4, 0, 4, 0)
+    for entries, page in BUSY:
+        feed = ''.join(report('01021204', *entry) for entry in entries)
+        yield from feed_lines(bytes.fromhex(feed), page, len(entries), 0, len(entries), 0)
+    yield line('post', FRESH, report('01021204', *EVENING), 0, stored.ENOUGH, 0, POSTED[0][1])
+    yield line('post', POSTED[0][1], report('01021204', *NOON), 0, stored.ENOUGH, 0, HIDDEN)
 
 
 def main():
     of_examples, of_feeds = list(examples()), list(stored_feeds())
     print('\n'.join(of_examples + of_feeds))
-    why = {'write': 'an extension of item 110, for which a record has no cell', 'post': 'a ledger that no page can say',
-           'store': 'a ledger that no page can say'}
+    why = {'write': 'an extension of item 110, for which a record has no cell', 'store': 'a ledger that no page can say',
+           'post': 'a ledger that no page can say, or known times and a block with more than one plain record'}
     for op, count in stored.CASES.items():
         lines = [line_of(case) for case in stored.cases(op)]
         left_out = lines.count(None)
         print('\n'.join(text for text in lines if text))
-        note = ', %d left out: %s' % (left_out, why[op]) if left_out else ''
+        as_feeds = sum(1 for text in lines if text and text.startswith('feed'))
+        note = ', %d of them as feeds' % as_feeds if as_feeds else ''
+        note += ', %d left out: %s' % (left_out, why[op]) if left_out else ''
         print('stored %s: %d of %d%s' % (op, count - left_out, count, note), file=sys.stderr)
     print('stored feeds: %d lines' % len(of_feeds), file=sys.stderr)
-    print('examples of document 01: %d' % len(of_examples), file=sys.stderr)
+    print('examples of the documents: %d' % len(of_examples), file=sys.stderr)
 
 
 main()

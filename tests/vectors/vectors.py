@@ -17,29 +17,38 @@ LARGE = [
 # The octets of a piece of a feed; 0 is all at once.
 PIECES = [0, 1, 7, 4096]
 
+# The number that stands for no known time, and a word of an answer that stands for any time or none known.
+UNKNOWN = 2 ** 32 - 1
+ANY_TIME = 'time'
+
 
 def numbers(values):
     return ' '.join(str(n) for n in values)
 
 
-def places_of(ledger):
-    """The places that are given, as key, life count and reading; the others are all zero."""
-    return [(((sac * 256 + sic) * 256 + octet) * 256 + typ, life, reading) for sac, sic, octet, typ, life, reading, _ in ledger['places']]
+def numbered(place):
+    """A place's four numbers."""
+    key, life, reading, time = place
+    return key, life, reading, UNKNOWN if time is None else time
+
+
+def place_octets(place):
+    return '%08X%016X%08X%08X' % numbered(place)
 
 
 def ledger_octets(ledger):
     """The row count, and 256 places."""
-    places = places_of(ledger)
+    places = stored.places_of(ledger)
     must(len(places) <= 256, 'a ledger has 256 places')
-    words = ['%016X' % ledger['count']] + ['%08X%016X%08X' % place for place in places]
+    words = ['%016X' % ledger['count']] + [place_octets(place) for place in places]
     if len(places) < 256:
-        words.append('%d*00' % (16 * (256 - len(places))))
+        words.append('%d*%s' % (256 - len(places), place_octets(stored.EMPTY)))
     return ' '.join(words)
 
 
 def ledger_numbers(number, ledger):
-    """Number, row count, and each place that is not all zero, with its number from 0."""
-    places = [value for i, place in enumerate(places_of(ledger)) if any(place) for value in (i,) + place]
+    """Number, row count, and each place that is not empty, with its number from 0."""
+    places = [value for i, place in enumerate(stored.places_of(ledger)) if place != stored.EMPTY for value in (i,) + numbered(place)]
     return numbers([number, ledger['count']] + places)
 
 
@@ -73,10 +82,9 @@ def line_and_answer(case):
 
 
 def feed_cases():
-    """Each feed in pieces of each size: the totals, the row count, and each place that is not all zero."""
+    """Each feed in pieces of each size: the totals, the row count, and each place; what `wear` prints has no times."""
     for octets, rows, totals in stored.feeds():
-        rows = [(int(key, 16), life, reading) for key, life, reading in rows]
-        places = [value for i, row in enumerate(rows) if any(row) for value in (i,) + row]
+        places = [value for i, (key, life, reading) in enumerate(rows) for value in (i, int(key, 16), life, reading, ANY_TIME)]
         for piece in PIECES:
             yield 'feed %d %s' % (piece, octets.hex()), numbers(totals + [len(rows)] + places)
 
@@ -98,6 +106,16 @@ def all_cases():
     yield 'feed', list(feed_cases()), 0
 
 
+def is_time(word):
+    return word.isdecimal() and (int(word) <= stored.LATEST or int(word) == UNKNOWN)
+
+
+def agrees(wrote, expected):
+    """Whether a line is the one expected, word by word."""
+    words, asked = wrote.split(' '), expected.split(' ')
+    return len(words) == len(asked) and all(is_time(word) if want == ANY_TIME else word == want for word, want in zip(words, asked))
+
+
 def judge(path):
     with open(path) as f:
         wrote = f.read().split('\n')
@@ -105,11 +123,12 @@ def judge(path):
     groups = list(all_cases())
     asked = sum(len(cases) for _, cases, _ in groups)
     must(len(wrote) == asked, '%d lines were written for %d cases' % (len(wrote), asked))
-    at, wrong = 0, 0
+    at, wrong, told = 0, 0, {}
     for op, cases, left_out in groups:
         differ = 0
         for line, expected in cases:
-            if wrote[at] != expected:
+            # of a feed in pieces of each size the same is expected, and has to be written, times and all
+            if not agrees(wrote[at], expected) or told.setdefault(expected, wrote[at]) != wrote[at]:
                 differ += 1
                 print('%s\n  expected %.400s\n  wrote    %.400s' % (line, expected, wrote[at]))
             at += 1

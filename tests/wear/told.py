@@ -30,9 +30,10 @@ def sentences():
 WORDS = sentences()
 
 
-def report(count, reference=0):
-    """Document 01's P8 with a count of its own."""
-    return bytes.fromhex('170013F140010203120000800104') + bytes([reference]) + count.to_bytes(4, 'big')
+def report(count, reference=0, second=1):
+    """Document 01's P8 with a count and a time of its own."""
+    time_of_day = (128 * second).to_bytes(3, 'big')
+    return bytes.fromhex('170013F14001020312') + time_of_day + b'\x01\x04' + bytes([reference]) + count.to_bytes(4, 'big')
 
 
 def sheet(life, reading, accepted, refused, posted):
@@ -109,6 +110,19 @@ def good_runs():
         f.flush()
         holds('a feed as FILE', Run([f.name]), 0, sheet(185, 30, 4, 0, 4), '')
         holds('--tell with nothing to tell, and FILE', Run(['--tell', '--', f.name]), 0, sheet(185, 30, 4, 0, 4), '')
+
+
+def busy_days():
+    """02 §4: 100 at 20:00 and 150 at 12:00 are of two days, however the feed comes; 150 at 20:00 is of the same day, and a refused block between
+    tells no time."""
+    evening, noon, later = report(100, second=72000), report(150, second=43200), report(150, second=72000)
+    for piece in (None, 1, len(evening)):
+        holds('a busy day, pieces of %s' % piece, Run(octets=evening + noon, piece=piece), 0, sheet(250, 150, 2, 0, 2), '')
+    between = report(5, 0x80, second=43200)
+    holds('a busy day, and a count from the last report', Run(octets=evening + between + noon), 0, sheet(255, 150, 3, 0, 3), '')
+    holds('one long day', Run(octets=evening + later), 0, sheet(150, 150, 2, 0, 2), '')
+    cut_short = b'\x17\x00\x12' + report(7, second=43200)[3:18]
+    holds('one long day, and a refused block', Run(octets=evening + cut_short + later), 0, sheet(150, 150, 2, 1, 2), '')
 
 
 def runs_at_once():
@@ -342,7 +356,7 @@ def first_runs():
 
 def main():
     Run()                       # proves and builds, where that has not been done
-    for cases in (good_runs, runs_at_once, stopped_runs, told_runs, live_runs, failed_reads, spoilt_ends, bad_use, first_runs):
+    for cases in (good_runs, busy_days, runs_at_once, stopped_runs, told_runs, live_runs, failed_reads, spoilt_ends, bad_use, first_runs):
         cases()
     print('told: %d cases, %d differences' % (CASES, len(FAULTS)))
     return 1 if FAULTS else 0
