@@ -134,7 +134,8 @@ uint32_t wear_rewrite(const uint8_t *octets, size_t n, uint8_t *out, size_t m, u
 /* A ledger's page, high octet first: the row count n, the offset of the keys (8), the offset of the readings (8 + 4n) and the length
  * (8 + 16n), two octets each; then the keys, four octets each and rising strictly: SAC, SIC, the octet of 23/015, TYPE; then for each row
  * the life count (8 octets) and the last reading since midnight (4), which never exceeds it. There are at most 256 rows. A page that is
- * handed over has exactly its length. */
+ * handed over has exactly its length. A page has no times: a ledger that comes from one knows of no row when its last count since midnight
+ * came. */
 #define WEAR_PAGE_MOST (8 + 16 * 256)
 
 /* The page of a fresh ledger, as an initialiser, and its octets. */
@@ -143,7 +144,8 @@ uint32_t wear_rewrite(const uint8_t *octets, size_t n, uint8_t *out, size_t m, u
 
 /* Posts record `number`, from 0, of a block to the ledger of a page, and stores the ledger as a page. length[0] becomes the octets of the
  * page, 0 on refusal: the page's 16, then the block's and the post's, then 12. Each call reads the whole block and judges the ledger's 256
- * places twice, so that posting all records of a feed with it is quadratic in a block's records: use wear_feed for that. */
+ * places twice, so that posting all records of a feed with it is quadratic in a block's records: use wear_feed for that. A midnight
+ * that only an earlier time tells is not seen from call to call. */
 uint32_t wear_post(const uint8_t *page, size_t n, const uint8_t *octets, size_t m, uint64_t number, uint8_t *out, size_t p,
                    uint64_t *length, size_t one);
 
@@ -169,7 +171,9 @@ enum {
 /* Posts the records of all blocks at hand to the ledger of a page, as the program `wear` does, and stores the ledger as a page. A refused
  * block is counted and skipped by LEN. `more` is 0 where the input ends with these octets; otherwise more may come. Where it leaves off
  * with WEAR_MORE, the octets that were not used (fewer than 65,535) are handed over again in the next call, with those that followed.
- * Cells: WEAR_FEED_PAGE and those after it, all 0 on refusal: the page's 16, then 12. */
+ * Within a call, a count since midnight at an earlier time than the counter's last one is taken for one after a midnight, however large it
+ * is. The page forgets these times, so that a midnight between two calls is seen only where the count is smaller than the last reading;
+ * `wear` sees every one. Cells: WEAR_FEED_PAGE and those after it, all 0 on refusal: the page's 16, then 12. */
 uint32_t wear_feed(const uint8_t *page, size_t n, const uint8_t *octets, size_t m, uint32_t more, uint8_t *out, size_t p, uint64_t *cells,
                    size_t k);
 

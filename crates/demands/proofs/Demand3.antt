@@ -13,12 +13,12 @@ use Rattle.octets.specs.Choice.{pick}
 use Rattle.octets.specs.Numbers.{Octets}
 use Rattle.octets.proofs.Cases.{test}
 use Rattle.blocks.specs.declared.walk.Reading.{Reading}
-use Rattle.rows.specs.Rows.{rowOf, lifeOf, addUp}
+use Rattle.rows.specs.Rows.{rowOf, lifeOf, timeOf, lastTime, addUp}
 use Rattle.rows.specs.Posting.{refused, entries, names, answers, after, ofKey, tally, accepted}
 use Rattle.rows.specs.Order.{times, upto, answersInOrder}
 use Rattle.rows.specs.Order as rows
 use Rattle.rows.proofs.Numbers.{map-same, map-twice}
-use Rattle.rows.proofs.Theorems.{adding-key, any-order, row-rule, own-order as reports-order}
+use Rattle.rows.proofs.Theorems.{adding-key, adding-time, any-order, row-rule, own-order as reports-order}
 use Rattle.ledger.specs.Ledgers.{answer, rowsOf, cellsOf, keepsRules, Held}
 use Rattle.ledger.specs.Posts.{postOf}
 use Rattle.ledger.specs.Steps.{Kept}
@@ -95,6 +95,12 @@ row-at-end l held keeps xs ns end h c =
     let a = ran l end xs ns k h in
     ap (λ rs. rowOf rs c) (a .left) ∙ row-rule addUp adding-key (rowsOf (l .cells)) (map report xs) (k .good .rises) c
     ∙ ap (λ t. tally addUp c (rowOf (rowsOf (l .cells)) c) (ofKey c (accepted t (map report xs)))) (sym (a .told))
+
+-- So its time is that of its last from-midnight entry in those reports; where there is none, what it was at the start, or unknown for a new row.
+pub time-at-end : (l : Ledger) → Held (l .cells) → keepsRules (l .cells) ≡ true → (xs : List Sent) (ns : List ℕ) (end : Ledger) → Run l xs ns end
+    → (c : ℕ) → timeOf (rowOf (rowsOf (end .cells)) c) ≡ lastTime (timeOf (rowOf (rowsOf (l .cells)) c)) (ofKey c (accepted ns (map report xs)))
+time-at-end l held keeps xs ns end h c =
+    ap timeOf (row-at-end l held keeps xs ns end h c) ∙ adding-time c (rowOf (rowsOf (l .cells)) c) (ofKey c (accepted ns (map report xs)))
 
 -- A run keeps the ledger's rules.
 pub rules-at-end : (l : Ledger) → Held (l .cells) → keepsRules (l .cells) ≡ true → (xs : List Sent) (ns : List ℕ) (end : Ledger) → Run l xs ns end

@@ -1,14 +1,15 @@
 -- What is proved of posting, for every rule that keeps a row's key, and of the adding-up rule. Assumes nothing.
-use mathlib.Core.List.{List}
+use mathlib.Core.List.{List, [], _∷_}
+use mathlib.Core.Option.{Option, none, some}
 use mathlib.Core.Path.{_≡_, refl, ap, sym, _∙_}
-use Prim.Native.Nat.{_≤_}
+use Prim.Native.Nat.{ℕ, _≤_}
 use native.Mathlib.Omega.{arith}
 use lib.Dec.{leb}
 use lib.ListN.{length}
 use borrow.Author.Tests.{leb-true}
 use Rattle.octets.proofs.Cases.{test}
-use Rattle.rows.specs.Rows.{Row, Entry, sinceLast, midnight, addUp, rowOf, lifeOf}
-use Rattle.rows.specs.Posting.{Report, entries, ofKey, Good}
+use Rattle.rows.specs.Rows.{Row, Entry, newRow, sinceLast, midnight, addUp, lastTime, rowOf, lifeOf, timeOf}
+use Rattle.rows.specs.Posting.{Report, entries, tally, ofKey, Good}
 use Rattle.rows.specs.Order.{Order, inOrder, answersInOrder, upto}
 use Rattle.rows.specs.Claims.{AnyOrder, RowRule, AllOrNothing, NeverFalls, StaysGood}
 use Rattle.rows.proofs.Numbers.{times-upto, place-upto}
@@ -69,6 +70,13 @@ adding-under r e h =
     (λ f. rw f (test (midnight r e) (λ t. rw t (omega arith))
     (λ n. rw n (test (leb (r .reading) (e .count))
     (λ t. let g = leb-true (r .reading) (e .count) t in rw t (omega arith)) (λ g. rw g (omega arith))))))
+
+-- it keeps the time of the last from-midnight entry
+pub adding-time : (k : ℕ) (row : Option Row) (es : List Entry) → timeOf (tally addUp k row es) ≡ lastTime (timeOf row) es
+unfolding tally lastTime addUp
+adding-time k row [] = refl
+adding-time k none (e ∷ es) = adding-time k (some (addUp (newRow k) e)) es
+adding-time k (some r) (e ∷ es) = adding-time k (some (addUp r e)) es
 
 -- every run has an order: its own
 pub own-order : (rs : List Report) → Order rs (upto (length rs))

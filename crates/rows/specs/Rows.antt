@@ -56,7 +56,12 @@ addUp r e = record {
   time = pick (sinceLast e) (r .time) (e .time);
 }
 
--- the row of a key, if there is one; its life count, 0 where there is none; the row that an entry of this key is added up to
+-- the time of the last from-midnight entry, or what it was before
+unfoldable pub lastTime : ℕ → List Entry → ℕ
+lastTime was [] = was
+lastTime was (e ∷ es) = lastTime (pick (sinceLast e) was (e .time)) es
+
+-- the row of a key, if there is one; its life count, 0 where there is none, and its time; the row that an entry of this key is added up to
 unfoldable pub rowOf : List Row → ℕ → Option Row
 rowOf [] k = none
 rowOf (r ∷ rows) k = pick (eqb (r .key) k) (some r) (rowOf rows k)
@@ -68,6 +73,10 @@ has (some r) = true
 abbrev pub lifeOf : Option Row → ℕ
 lifeOf none = 0
 lifeOf (some r) = r .life
+
+abbrev pub timeOf : Option Row → ℕ
+timeOf none = noTime
+timeOf (some r) = r .time
 
 abbrev pub orNew : ℕ → Option Row → Row
 orNew k none = newRow k
