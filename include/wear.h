@@ -173,7 +173,7 @@ enum {
  * with WEAR_MORE, the octets that were not used (fewer than 65,535) are handed over again in the next call, with those that followed.
  * Within a call, a count since midnight at an earlier time than the counter's last one is taken for one after a midnight, however large it
  * is. The page forgets these times, so that a midnight between two calls is seen only where the count is smaller than the last reading;
- * `wear` sees every one. Cells: WEAR_FEED_PAGE and those after it, all 0 on refusal: the page's 16, then 12. */
+ * `wear` also sees those that an earlier time tells. Cells: WEAR_FEED_PAGE and those after it, all 0 on refusal: the page's 16, then 12. */
 uint32_t wear_feed(const uint8_t *page, size_t n, const uint8_t *octets, size_t m, uint32_t more, uint8_t *out, size_t p, uint64_t *cells,
                    size_t k);
 

@@ -572,7 +572,7 @@ static unsigned category;
 static enum fault fault;
 static bool crowded;                /* each report has many counters, so that a few fill a ledger */
 enum { FEW_TIMES = 4 };
-static bool busy;                   /* all reports have few counters and few times, so that a row has many */
+static bool busy;                   /* all reports have few counters and few times, so that a row meets many entries */
 static uint64_t busy_times[FEW_TIMES];
 
 static void put(uint64_t octet)

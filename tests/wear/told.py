@@ -121,7 +121,7 @@ def busy_days():
     between = report(5, 0x80, second=43200)
     holds('a busy day, and a count from the last report', Run(octets=evening + between + noon), 0, sheet(255, 150, 3, 0, 3), '')
     holds('one long day', Run(octets=evening + later), 0, sheet(150, 150, 2, 0, 2), '')
-    cut_short = b'\x17\x00\x12' + report(7, second=43200)[3:18]
+    cut_short = b'\x17\x00\x12' + report(7, second=79200)[3:18]
     holds('one long day, and a refused block', Run(octets=evening + cut_short + later), 0, sheet(150, 150, 2, 1, 2), '')
 
 

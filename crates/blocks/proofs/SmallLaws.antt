@@ -59,7 +59,7 @@ step-small s start t c o h =
     let (z, b) = values Form.Service in
     (rw (y .same, ← a 0 0, ← a 0 1) (source-bits s x), rw (y .same, ← b 0 0, ← b 0 1) (service-bits s z))
 
--- The latest time is no item's but a time's, so that its values are looked at
+-- The bound of a time is a range and not its bits', so that it is had from values that fit
 
 time-range : (tr : Trace) → (tr ≡ []) ⊎ (fitsIn (format (layout Form.Time)) tr ≡ true) → val tr 0 0 ≤ latest
 unfolding format fitsIn fits

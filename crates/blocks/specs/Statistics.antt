@@ -39,7 +39,7 @@ numbersOf source service time entries = record {
   count = entries .count;
 }
 
--- the latest time that a report has
+-- the greatest time that a report may have, for the ledger, which does not see the tables
 abbrev pub latestTime : ℕ
 latestTime = latest
 

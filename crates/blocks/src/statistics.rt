@@ -49,7 +49,7 @@ pub struct Entry {
     pub count: u32,
 }
 
-// The category that statistics reports are of, and the latest time that one has.
+// The category that statistics reports are of, and the greatest time that one may have.
 pub const CATEGORY: u8 = Cat23::CAT;
 
 pub const LATEST_TIME: u32 = LATEST;

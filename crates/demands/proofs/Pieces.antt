@@ -13,7 +13,7 @@ use Rattle.octets.specs.Numbers.{Octets, laid}
 use Rattle.octets.specs.Outcomes.{puts, within}
 use Rattle.octets.proofs.Cases.{test}
 use Rattle.octets.proofs.Parts.{Octets-take}
-use Rattle.rows.specs.Rows.{Row, noTime}
+use Rattle.rows.specs.Rows.{Row}
 use Rattle.ledger.specs.Ledgers.{answer, rowsOf, cellsOf}
 use Rattle.ledger.specs.Pages.{pageOf, untimed, loadOf, storeOf}
 use Rattle.ledger.specs.declared.Answer.{Answer}

@@ -16,7 +16,7 @@ use Rattle.ledger.specs.Ledgers.{head, wide, ledgerCells, rowCells, rowP
 use Rattle.ledger.specs.Steps.{Narrow, Ruled, Kept}
 use Rattle.ledger.specs.declared.Ledger.{Ledger}
 use Rattle.ledger.proofs.RowPlaces.{each-at, sorted-get}
-use Rattle.ledger.proofs.TableLaws.{get-same, listed-many, length-table, table-get}
+use Rattle.ledger.proofs.TableLaws.{listed-many, length-table, table-get}
 
 -- The numbers of a row, and the row of its numbers: what follows knows no more of its parts
 
@@ -177,6 +177,6 @@ kept-rising cells k i j less h =
     let high = ap (λ r. r .key) (rows-get cells j h) in
     omega (arith, sorted-get (rowsOf cells) i j (k .good .rises) less (omega (arith, rows-many cells)))
 
--- a row's key and reading have 32 bits, and its time is one
+-- a row's key and reading have 32 bits, and its time keeps its rule
 pub kept-narrow : (cells : List ℕ) → Kept cells → (i : ℕ) → i < countOf cells → Narrow (rowIn cells i)
 kept-narrow cells k i h = subst Narrow (rows-get cells i h) (each-at Narrow (rowsOf cells) (k .narrow) i (omega (arith, rows-many cells)))

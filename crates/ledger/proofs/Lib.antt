@@ -20,3 +20,4 @@ pub mod PageSteps
 pub mod PutSteps
 pub mod PageTheorems
 pub mod LentLaws
+pub mod Examples

@@ -3,7 +3,7 @@ use mathlib.Core.Path.{_≡_, sym, ap, _∙_}
 use mathlib.Core.Bool.{Bool, true, false}
 use mathlib.Core.List.{List}
 use Prim.Native.Nat.{ℕ, _≤_}
-use borrow.Author.Tests.{lt-ltb, le-ltb, leb-true, leb-false}
+use borrow.Author.Tests.{lt-ltb, le-ltb, leb-false}
 use lib.Dec.{leb}
 use Rattle.octets.specs.Refusals.{notStatistics, rulesBroken, noRoom, lifePasses}
 use Rattle.blocks.specs.Statistics.{isStatistics, statisticsOf}

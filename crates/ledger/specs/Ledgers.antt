@@ -51,7 +51,7 @@ unfoldable pub table : (Row → List ℕ) → List Row → List ℕ
 table f [] = []
 table f (r ∷ rows) = f r ++ table f rows
 
--- the ledger of rows: places past the row count are all zero, and have no known time
+-- the ledger of rows: in places past the row count key, life count and reading are 0, and no time is known
 unfoldable pub cellsOf : List Row → List ℕ
 cellsOf rows = length rows ∷ table rowCells (rows ++ replicate (256 - length rows) (newRow 0))
 
@@ -75,7 +75,7 @@ answer n cells = record { refusal = n; ledger = record { cells = cells } }
 abbrev pub timeKeeps : ℕ → Bool
 timeKeeps time = leb time latestTime || eqb time noTime
 
--- a row's key and reading have 32 bits, and the reading does not exceed the life count
+-- a row's key and reading have 32 bits, the reading does not exceed the life count, and the time keeps its rule
 abbrev pub rowKeeps : Row → Bool
 rowKeeps r = ltb (r .key) (2 ^ 32) && leb (r .reading) (r .life) && ltb (r .reading) (2 ^ 32) && timeKeeps (r .time)
 
@@ -83,7 +83,7 @@ rowKeeps r = ltb (r .key) (2 ^ 32) && leb (r .reading) (r .life) && ltb (r .read
 abbrev pub rises : List ℕ → ℕ → Bool
 rises cells i = eqb i 0 || ltb (rowIn cells (i - 1) .key) (rowIn cells i .key)
 
--- a place past the row count is all zero, with no known time
+-- in a place past the row count key, life count and reading are 0, and no time is known
 abbrev pub rowEmpty : Row → Bool
 rowEmpty r = eqb (r .key) 0 && eqb (r .life) 0 && eqb (r .reading) 0 && eqb (r .time) noTime
 

@@ -28,7 +28,7 @@ const TIME: usize = 3;
 pub const NO_TIME: u64 = 0xFFFF_FFFF;
 
 // A row: its counter's key, which is SAC, SIC, the octet of 015 and TYPE, the life count, the last midnight reading, and the time of the last
-// from-midnight entry, in 1/128 s.
+// from-midnight entry, in 1/128 s, or NO_TIME.
 pub struct Row {
     pub key: u64,
     pub life: u64,
@@ -37,7 +37,7 @@ pub struct Row {
 }
 
 // A new row; with key 0, an empty place.
-pub fn new_row(key: u64) -> Row
+pub(crate) fn new_row(key: u64) -> Row
     ensures { λ r. ⌜ asRow r ≡ newRow key ⌝ }
 {
     Row {

@@ -17,7 +17,8 @@ use crate::cells::ROWS;
 use crate::cells::new_row;
 use crate::cells::put_row;
 
-// The row count, then the rows, rising by key; places past the row count are all zero, with no known time.
+// The row count, then the rows, rising by key; in a place past the row count key, life count and reading are
+// 0, and no time is known.
 pub struct Ledger {
     pub cells: [u64; CELLS],
 }

@@ -32,7 +32,7 @@ pub record Entry : Type 0 where
   pub reference : ℕ
   pub count : ℕ
 
--- An entry counts from the last report, or from midnight
+-- Whether an entry counts from the last report; else from midnight
 abbrev pub sinceLast : Entry → Bool
 sinceLast e = eqb (e .reference) 1
 

@@ -16,7 +16,7 @@ use text::more;
 use text::number;
 
 // The octets of a ledger.
-const SIZE: usize = 5128;
+const SIZE: usize = 8 + 20 * ROWS;
 
 // The number of four octets, and of eight; past the end there are zeros.
 fn four(s: &[u8], at: usize) -> u32 {
