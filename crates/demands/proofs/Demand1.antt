@@ -2,7 +2,7 @@
 -- `requires`. That what breaks a rule gets the number of its first fault is in the files Given*.antt. Assumes nothing.
 use mathlib.Core.Bool.{true}
 use mathlib.Core.List.{List, map}
-use mathlib.Core.Path.{_≡_, ap, sym, _∙_}
+use mathlib.Core.Path.{_≡_, ap, sym, _∙_, subst}
 use Prim.Native.Nat.{ℕ, _≤_, _<_}
 use native.Mathlib.Omega.{arith}
 use borrow.Author.Tests.{lt-ltb, le-ltb}
@@ -15,11 +15,11 @@ use Rattle.blocks.specs.declared.record.Record.{Record}
 use Rattle.writing.specs.Written.{writeOf, rewriteOf}
 use Rattle.octets.specs.declared.output.Written.{Written}
 use Rattle.ledger.specs.Ledgers.{answer, rowsOf, changed, keepsRules, Held}
-use Rattle.ledger.specs.Pages.{pageOf, untimed, storeOf, loadOf}
+use Rattle.ledger.specs.Pages.{pageOf, untimed, NoTimes, storeOf, loadOf}
 use Rattle.ledger.specs.declared.Answer.{Answer}
 use Rattle.ledger.specs.declared.Ledger.{Ledger}
 use Rattle.ledger.proofs.CellLaws.{ledger-same}
-use Rattle.ledger.proofs.PageTheorems.{store-load, load-store}
+use Rattle.ledger.proofs.PageTheorems.{store-load, load-store, loaded-untimed, untimed-load}
 use Rattle.ledger.proofs.PostTheorems.{posted-same}
 use Rattle.doors.specs.Cell.{feedCellCount}
 use Rattle.doors.specs.Feeds.{isOver, feedRun, pageFed, feedCells}
@@ -70,6 +70,18 @@ stored-loaded l held o out n h r e =
     let w = written-laid (storeOf (l .cells)) o out n (h .0) (h .1) in
     let p = store-page l (w .xs) (w .is) in
     e ∙ ap loadOf (ap (take n) (w .same) ∙ take-at (w .xs) (drop n o) n (sym (w .long)) ∙ p .1) ∙ store-load (l .cells) held (p .0)
+
+-- the whole ledger where it has no known time,
+pub stored-whole : (l : Ledger) → Held (l .cells) → NoTimes (rowsOf (l .cells)) → (o out : List ℕ) (n : ℕ) → Stores l o out (Written.Octets n)
+    → (r : Answer) → Loads (take n out) r → r ≡ answer 0 (l .cells)
+stored-whole l held none-known o out n h r e =
+    let w = written-laid (storeOf (l .cells)) o out n (h .0) (h .1) in
+    let p = store-page l (w .xs) (w .is) in
+    stored-loaded l held o out n h r e ∙ sym (store-load (l .cells) held (p .0)) ∙ untimed-load (l .cells) held (p .0) none-known
+
+-- as no ledger that is loaded has;
+pub loaded-none-known : (s : List ℕ) (r : Answer) → Loads s r → NoTimes (rowsOf (r .ledger .cells))
+loaded-none-known s r h = subst (λ (a : Answer). NoTimes (rowsOf (a .ledger .cells))) (sym h) (loaded-untimed s)
 
 -- and store after load the octets.
 pub loaded-stored : (s : List ℕ) → Octets s → (l : Ledger) → Loads s (answer 0 (l .cells))

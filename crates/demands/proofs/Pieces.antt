@@ -1,8 +1,8 @@
--- A feed may be handed over at its door in pieces: where a call waits for more, a second one on the page that it stored, over the octets that it did not
--- use and those that follow, goes on from the rows that the first left, without their times. Where these have no known time, both do what one call over
--- all octets does. Assumes nothing.
+-- A call on the page that another stored goes on from the rows that this one left, without their times. So a feed may be handed over at its door in pieces
+-- where no time is known: a second call over the octets that the first did not use and those that follow does what one call over all of them does.
+-- Assumes nothing.
 use mathlib.Core.Bool.{Bool}
-use mathlib.Core.List.{List, [], _∷_, _++_, map}
+use mathlib.Core.List.{List, _++_, map}
 use mathlib.Core.Path.{_≡_, refl, sym, ap, _∙_, subst}
 use Prim.Native.Nat.{ℕ, _+_, _≤_, _<_}
 use native.Mathlib.Omega.{arith}
@@ -18,7 +18,7 @@ use Rattle.ledger.specs.Ledgers.{answer, rowsOf, cellsOf}
 use Rattle.ledger.specs.Pages.{pageOf, untimed, loadOf, storeOf}
 use Rattle.ledger.specs.declared.Answer.{Answer}
 use Rattle.ledger.proofs.CellLaws.{rows-back}
-use Rattle.ledger.proofs.PageTheorems.{kept-load}
+use Rattle.ledger.proofs.PageTheorems.{kept-load, none-untimed}
 use Rattle.feed.specs.Runs.{state, Run, behind, runOver, zeros, doneOf}
 use Rattle.feed.specs.Totals.{up}
 use Rattle.feed.specs.declared.run.Ending.{Ending}
@@ -30,7 +30,7 @@ use Rattle.doors.specs.Answers.{isFew, putRefusal, putOutput}
 use Rattle.doors.specs.Feeds.{isOver, feedRun, pageFed, leftOff, doneCells, feedCells}
 use Rattle.demands.specs.Contracts.{WearFeeds}
 use Rattle.demands.specs.GivenFeeds.{fedPage}
-use Rattle.demands.specs.Pieces.{Waits, stored, unused, NoTimes, Together}
+use Rattle.demands.specs.Pieces.{Waits, stored, unused, LeftNoTimes, Together}
 use Rattle.demands.proofs.Demand1.{few-feeding}
 use Rattle.demands.proofs.GivenPages.{load-page}
 use Rattle.demands.proofs.GivenFeeds.{fed-kept, fed-loaded, feed-given-0, puts-out, feed-accepted}
@@ -52,18 +52,11 @@ left-more ending.Ended h = absurd (omega arith)
 left-more ending.Stopped h = absurd (omega arith)
 left-more ending.More h = refl
 
--- rows without a known time are what a page keeps of them
-none-untimed : (rows : List Row) → NoTimes rows → map untimed rows ≡ rows
-none-untimed [] n = refl
-none-untimed (r ∷ rows) n = λ i. record { key = r .key; life = r .life; reading = r .reading; time = sym (n .0) i } ∷ none-untimed rows (n .1) i
-
-module _ (page s t : List ℕ) (okay : Octets page) (are : Octets (s ++ t)) (more : ℕ) (l cells out after : List ℕ)
-    (first : WearFeeds page s more l cells out after 0) (waits : Waits after) where
+-- A call that was accepted
+module _ (page s : List ℕ) (okay : Octets page) (front : Octets s) (more : ℕ) (l cells out after : List ℕ)
+    (first : WearFeeds page s more l cells out after 0) where
   abbrev run : Run
   run = feedRun page s (isOver more)
-
-  front : Octets s
-  front = subst Octets (take-at s t (length s) refl) (Octets-take (length s) (s ++ t) are)
 
   held : feedCellCount ≤ length cells
   held = enough page s more l cells out after 0 first refl
@@ -85,39 +78,53 @@ module _ (page s t : List ℕ) (okay : Octets page) (are : Octets (s ++ t)) (mor
       ap loadOf (page-stored ∙ ap pageOf (sym (rows-back (run .state .rows)))) ∙ kept-load (cellsOf (run .state .rows)) (fed-kept page s okay front more)
       ∙ ap (λ rows. answer 0 (cellsOf (map untimed rows))) (rows-back (run .state .rows))
 
-  -- The second call's run: from the rows that the first left, without their times, over what it did not use and what follows.
+  -- The run of any call on that page: from the rows that the first left, without their times.
+  pub goes-on : (t : List ℕ) (over : Bool)
+      → feedRun (stored after out) t over ≡ runOver t over (state (map untimed (feedRun page s (isOver more) .state .rows)) zeros)
+  goes-on t over =
+      ap (λ (rows : List Row). runOver t over (state rows zeros))
+      (ap (λ (a : Answer). rowsOf (a .ledger .cells)) loads ∙ rows-back (map untimed (run .state .rows)))
+
+-- A call that waits for more, and left no known time
+module _ (page s t : List ℕ) (okay : Octets page) (are : Octets (s ++ t)) (more : ℕ) (l cells out after : List ℕ)
+    (first : WearFeeds page s more l cells out after 0) (waits : Waits after) (none-known : LeftNoTimes page s more) where
+  front : Octets s
+  front = subst Octets (take-at s t (length s) refl) (Octets-take (length s) (s ++ t) are)
+
+  abbrev begun : Run
+  begun = feedRun page s (isOver more)
+
+  abbrev tells : (i : ℕ) → i < feedCellCount → getD after i 0 ≡ getD (doneCells (length (fedPage page s more)) (doneOf begun)) i 0
+  tells = told page s okay front more l cells out after first
+
+  -- the run of the second call, and the run over all
   module _ (over : Bool) where
     abbrev second-run : Run
     second-run = feedRun (stored after out) (unused after s ++ t) over
 
-    pub goes-on : second-run ≡ runOver (drop (run .at) s ++ t) over (state (map untimed (run .state .rows)) zeros)
-    goes-on =
-        let rows = ap (λ (a : Answer). rowsOf (a .ledger .cells)) loads ∙ rows-back (map untimed (run .state .rows)) in
-        λ i. runOver (drop (told wear.feedUsed (omega arith) i) s ++ t) over (state (rows i) zeros)
-
-  -- Where they have no known time, it goes on where the first left off
-  module _ (none-known : NoTimes (run .state .rows)) (over : Bool) where
-    whole-run : feedRun page (s ++ t) over ≡ behind (run .at) (counting (run .state .totals) (second-run over))
+    whole-run : feedRun page (s ++ t) over ≡ behind (begun .at) (counting (begun .state .totals) second-run)
     whole-run =
-        counted-more s t (isOver more) over _ are (left-more (run .ending) (sym (told wear.feedLeftOff (omega arith)) ∙ waits))
-        ∙ ap (λ (rows : List Row). behind (run .at) (counting (run .state .totals) (runOver (drop (run .at) s ++ t) over (state rows zeros))))
-        (sym (none-untimed (run .state .rows) none-known))
-        ∙ ap (λ (r : Run). behind (run .at) (counting (run .state .totals) r)) (sym (goes-on over))
+        counted-more s t (isOver more) over _ are (left-more (begun .ending) (sym (tells wear.feedLeftOff (omega arith)) ∙ waits))
+        ∙ (λ i. behind (begun .at) (counting (begun .state .totals)
+        (runOver (drop (sym (tells wear.feedUsed (omega arith)) i) s ++ t) over (state (sym (none-untimed (begun .state .rows) none-known) i) zeros))))
+        ∙ ap (λ (r : Run). behind (begun .at) (counting (begun .state .totals) r))
+        (sym (goes-on page s okay front more l cells out after first (unused after s ++ t) over))
 
     same-fed : pageFed (stored after out) (unused after s ++ t) over ≡ pageFed page (s ++ t) over
     same-fed =
-        let good = ap (λ (a : Answer). a .refusal) (load-page page (feed-given-0 page s okay front more l cells out after 0 first held .0 refl .0)) in
-        fed-loaded (stored after out) (unused after s ++ t) over (ap (λ (a : Answer). a .refusal) loads)
+        let has = held page s okay front more l cells out after first in
+        let good = ap (λ (a : Answer). a .refusal) (load-page page (feed-given-0 page s okay front more l cells out after 0 first has .0 refl .0)) in
+        fed-loaded (stored after out) (unused after s ++ t) over (ap (λ (a : Answer). a .refusal) (loads page s okay front more l cells out after first))
         ∙ ap (λ (r : Run). storeOf (cellsOf (r .state .rows))) (sym whole-run) ∙ sym (fed-loaded page (s ++ t) over good)
 
   -- Two calls, and one over the whole, with the same output and cells lent.
-  module _ (none-known : NoTimes (run .state .rows)) (more' : ℕ) (l' cells' out₂ after₂ out' after' : List ℕ) (r₂ r' : ℕ)
+  module _ (more' : ℕ) (l' cells' out₂ after₂ out' after' : List ℕ) (r₂ r' : ℕ)
       (second : WearFeeds (stored after out) (unused after s ++ t) more' l' cells' out₂ after₂ r₂)
       (whole : WearFeeds page (s ++ t) more' l' cells' out' after' r') where
     -- The second call stores the page that the one call stores, or is refused as it is.
     pub pieces-page : (r₂ ≡ r') × (out₂ ≡ out')
     pieces-page =
-        let same = same-fed none-known (isOver more') in (
+        let same = same-fed (isOver more') in (
           second .0 ∙ ap (λ x. putRefusal (isFew feedCellCount cells') (within (length l') x)) same ∙ sym (whole .0),
           second .1 ∙ ap (λ x. putOutput (isFew feedCellCount cells') l' (within (length l') x)) same ∙ sym (whole .1),
         )
@@ -129,19 +136,19 @@ module _ (page s t : List ℕ) (okay : Octets page) (are : Octets (s ++ t)) (mor
         let n = length (fedPage page (s ++ t) more') in
         let has = enough page (s ++ t) more' l' cells' out' after' r' whole e in
         let put : within (length l') (pageFed (stored after out) (unused after s ++ t) over) ≡ puts (fedPage page (s ++ t) more')
-        = ap (within (length l')) (same-fed none-known over) ∙ puts-out page (s ++ t) okay are more' l' cells' out' after' r' whole has e in
+        = ap (within (length l')) (same-fed over) ∙ puts-out page (s ++ t) okay are more' l' cells' out' after' r' whole has e in
         let second-laid : after₂ ≡ laid cells' 0 (doneCells n (doneOf (second-run over)))
         = (rw (le-ltb (length cells') feedCellCount has) at (second .2)) ∙ ap (λ x. laid cells' 0 (feedCells x (second-run over))) put in
-        let whole-laid : after' ≡ laid cells' 0 (doneCells n (doneOf (behind (run .at) (counting (run .state .totals) (second-run over)))))
+        let whole-laid : after' ≡ laid cells' 0 (doneCells n (doneOf (behind (begun .at) (counting (begun .state .totals) (second-run over)))))
         = feed-accepted page (s ++ t) okay are more' l' cells' out' after' r' whole has e .1
-        ∙ ap (λ (r : Run). laid cells' 0 (doneCells n (doneOf r))) (whole-run none-known over) in
+        ∙ ap (λ (r : Run). laid cells' 0 (doneCells n (doneOf r))) (whole-run over) in
         let two = cell-told cells' after₂ _ second-laid in
         let one = cell-told cells' after' _ whole-laid in
         let added : (f : ℕ → ℕ → ℕ) (i : ℕ) → i < feedCellCount
-        → getD (doneCells n (doneOf (behind (run .at) (counting (run .state .totals) (second-run over))))) i 0
-        ≡ f (getD (doneCells (length (fedPage page s more)) (doneOf run)) i 0) (getD (doneCells n (doneOf (second-run over))) i 0)
+        → getD (doneCells n (doneOf (behind (begun .at) (counting (begun .state .totals) (second-run over))))) i 0
+        ≡ f (getD (doneCells (length (fedPage page s more)) (doneOf begun)) i 0) (getD (doneCells n (doneOf (second-run over))) i 0)
         → getD after' i 0 ≡ f (getD after i 0) (getD after₂ i 0)
-        = λ f i h is. one i h ∙ is ∙ (λ p. f (sym (told i h) p) (sym (two i h) p)) in
+        = λ f i h is. one i h ∙ is ∙ (λ p. f (sym (tells i h) p) (sym (two i h) p)) in
         record {
           page = added (λ m k. k) wear.feedPage (omega arith) refl;
           used = added (λ m k. m + k) wear.feedUsed (omega arith) refl;

@@ -4,12 +4,11 @@ use mathlib.Core.List.{List}
 use mathlib.Core.Path.{_≡_}
 use Prim.Native.Nat.{ℕ, _+_}
 use lib.ListN.{getD, take, drop}
-use Rattle.rows.specs.Rows.{Row, noTime}
-use Rattle.rows.specs.Posting.{Each}
+use Rattle.ledger.specs.Pages.{NoTimes}
 use Rattle.feed.specs.Totals.{up}
 use Rattle.feed.specs.declared.run.Ending.{Ending}
 use Rattle.doors.specs.Cell as wear
-use Rattle.doors.specs.Feeds.{leftOff}
+use Rattle.doors.specs.Feeds.{isOver, feedRun, leftOff}
 
 -- the call left off since more octets are needed
 abbrev pub Waits : List ℕ → Type 0
@@ -22,9 +21,9 @@ stored cells out = take (getD cells wear.feedPage 0) out
 abbrev pub unused : List ℕ → List ℕ → List ℕ
 unused cells s = drop (getD cells wear.feedUsed 0) s
 
--- no row has a known time, as where every entry that was posted counts from the last report
-abbrev pub NoTimes : List Row → Type 0
-NoTimes = Each (λ r. r .time ≡ noTime)
+-- the first call, on a page, left no known time, as where every entry that it posted counts from the last report
+abbrev pub LeftNoTimes : List ℕ → List ℕ → ℕ → Type 0
+LeftNoTimes page s more = NoTimes (feedRun page s (isOver more) .state .rows)
 
 -- the cells of the first call, of the second, and of one over the whole: a count goes up to 2^64 - 1
 pub record Together (first second whole : List ℕ) : Type 0 where

@@ -13,10 +13,11 @@ use Rattle.octets.specs.Refusals.{rulesBroken}
 use Rattle.octets.proofs.Cases.{test, both}
 use Rattle.blocks.specs.Statistics.{latestTime}
 use Rattle.rows.specs.Rows.{Row, noTime}
+use Rattle.rows.specs.Order.{upto}
 use Rattle.rows.specs.Posting.{Above, Sorted, Each}
 use Rattle.rows.proofs.Cases.{either}
 use Rattle.ledger.specs.Ledgers.{wide, rowCells, answer, rowsOf, cellsOf, changed, timeKeeps, keepsRules, Held}
-use Rattle.ledger.specs.Pages.{pageOf, untimed, rowAt, countIn, rowsIn, cellsIn, headKeeps, loadOf, storeOf}
+use Rattle.ledger.specs.Pages.{pageOf, untimed, NoTimes, rowAt, countIn, rowsIn, cellsIn, headKeeps, loadOf, storeOf}
 use Rattle.ledger.specs.Steps.{Narrow, Ruled, Kept}
 use Rattle.ledger.specs.declared.Answer.{Answer}
 use Rattle.ledger.proofs.CellLaws.{cells-long, cells-small, rows-back, kept-of, ruled-none}
@@ -118,3 +119,23 @@ loaded-good s o =
     (λ h k held. kept-rules (cellsIn s) held k)
     (λ held. kept-of [] ruled-none)
     (loaded-held s o)
+
+-- No row that is loaded has a known time.
+listed-untimed : (s : List ℕ) (n : ℕ) (l : List ℕ) → NoTimes (map (rowAt s n) l)
+listed-untimed s n [] = tt
+listed-untimed s n (i ∷ l) = (refl, listed-untimed s n l)
+
+pub loaded-untimed : (s : List ℕ) → NoTimes (rowsOf (loadOf s .ledger .cells))
+loaded-untimed s =
+    load-cases (λ a. NoTimes (rowsOf (a .ledger .cells))) s
+    (λ h k. subst NoTimes (sym (rows-back (rowsIn s))) (listed-untimed s (countIn s) (upto (countIn s))))
+    (subst NoTimes (sym (rows-back [])) tt)
+
+-- A page keeps the whole of rows without a known time, and gives the whole ledger back.
+pub none-untimed : (rows : List Row) → NoTimes rows → map untimed rows ≡ rows
+none-untimed [] n = refl
+none-untimed (r ∷ rows) n = λ i. record { key = r .key; life = r .life; reading = r .reading; time = sym (n .0) i } ∷ none-untimed rows (n .1) i
+
+pub untimed-load : (cells : List ℕ) → Held cells → keepsRules cells ≡ true → NoTimes (rowsOf cells) → loadOf (pageOf (rowsOf cells)) ≡ answer 0 cells
+untimed-load cells h k n =
+    store-load cells h k ∙ ap (λ rows. answer 0 (cellsOf rows)) (none-untimed (rowsOf cells) n) ∙ ap (answer 0) (sym (kept-rules cells h k .rest))

@@ -2,6 +2,7 @@
 -- 4 octets; then for each row the life count (8 octets) and the reading (4). It leaves the times out (02 §4): loading gives unknown ones.
 use mathlib.Core.Bool.{Bool, _&&_}
 use mathlib.Core.List.{List, [], _++_, map}
+use mathlib.Core.Path.{_≡_}
 use Prim.Native.Nat.{ℕ, _+_, _*_}
 use lib.Dec.{leb, eqb}
 use lib.ListN.{length}
@@ -11,6 +12,7 @@ use Rattle.octets.specs.Outcomes.{Outcome, no, puts}
 use Rattle.octets.specs.Refusals.{rulesBroken}
 use Rattle.rows.specs.Rows.{Row, noTime}
 use Rattle.rows.specs.Order.{upto}
+use Rattle.rows.specs.Posting.{Each}
 use Rattle.ledger.specs.Ledgers.{answer, rowsOf, table, cellsOf, keepsRules}
 use Rattle.ledger.specs.declared.Answer.{Answer}
 
@@ -41,6 +43,10 @@ pageOf rows = headOf (length rows) ++ table keyOctets rows ++ table countOctets 
 -- what a page keeps of a row
 abbrev pub untimed : Row → Row
 untimed r = record { key = r .key; life = r .life; reading = r .reading; time = noTime }
+
+-- rows without a known time
+abbrev pub NoTimes : List Row → Type 0
+NoTimes = Each (λ r. r .time ≡ noTime)
 
 -- 16, then (within the room of the output) 12
 unfoldable pub storeOf : List ℕ → Outcome

@@ -79,7 +79,12 @@ twice-early : after addUp (row 0x01021204 100 100 (clock 20) ∷ [])
 unfolding addUp addEntry addAll rowOf names newKeys passes postRows after
 twice-early = refl
 
--- midnight itself is time 0, which is known
+-- midnight itself is time 0: it is earlier than any other, and none is earlier than it
 at-midnight : after addUp (row 0x01021204 100 100 1 ∷ []) (p8 0 0 150 ∷ p8 0 0 160 ∷ []) ≡ row 0x01021204 260 160 0 ∷ []
 unfolding addUp addEntry addAll rowOf names newKeys passes postRows after
 at-midnight = refl
+
+-- a new row that begins with an entry from the last report has no known time
+new-last : after addUp [] (p8 (clock 12) 1 7 ∷ []) ≡ row 0x01021204 7 0 noTime ∷ []
+unfolding addUp addEntry addAll rowOf names newKeys passes postRows after
+new-last = refl
