@@ -25,12 +25,15 @@ unused cells s = drop (getD cells wear.feedUsed 0) s
 abbrev pub LeftNoTimes : List ℕ → List ℕ → ℕ → Type 0
 LeftNoTimes page s more = NoTimes (feedRun page s (isOver more) .state .rows)
 
--- the cells of the first call, of the second, and of one over the whole: a count goes up to 2^64 - 1
-pub record Together (first second whole : List ℕ) : Type 0 where
-  pub page : getD whole wear.feedPage 0 ≡ getD second wear.feedPage 0
+-- the cells of the first call, of the second, and of one over the whole: a count goes up to 2^64 - 1. Of the blocks,
+pub record SameBlocks (first second whole : List ℕ) : Type 0 where
   pub used : getD whole wear.feedUsed 0 ≡ getD first wear.feedUsed 0 + getD second wear.feedUsed 0
   pub left : getD whole wear.feedLeftOff 0 ≡ getD second wear.feedLeftOff 0
   pub accepted : getD whole wear.feedAccepted 0 ≡ up (getD first wear.feedAccepted 0) (getD second wear.feedAccepted 0)
   pub refused : getD whole wear.feedRefused 0 ≡ up (getD first wear.feedRefused 0) (getD second wear.feedRefused 0)
+
+-- and of the page and the records
+pub record SameRecords (first second whole : List ℕ) : Type 0 where
+  pub page : getD whole wear.feedPage 0 ≡ getD second wear.feedPage 0
   pub posted : getD whole wear.feedPosted 0 ≡ up (getD first wear.feedPosted 0) (getD second wear.feedPosted 0)
   pub unposted : getD whole wear.feedUnposted 0 ≡ up (getD first wear.feedUnposted 0) (getD second wear.feedUnposted 0)
