@@ -142,10 +142,10 @@ pub record Alike (a b : Run) : Type 0 where
   pub refused : a .state .totals .refused ≡ b .state .totals .refused
 
 -- as many blocks have been counted
-abbrev Even : State → State → Type 0
-Even x y = (x .totals .accepted ≡ y .totals .accepted) × (x .totals .refused ≡ y .totals .refused)
+abbrev AsMany : State → State → Type 0
+AsMany x y = (x .totals .accepted ≡ y .totals .accepted) × (x .totals .refused ≡ y .totals .refused)
 
-alike-from : (n : ℕ) (s : List ℕ) (over : Bool) (x y : State) → Even x y → Alike (runFrom n s over x) (runFrom n s over y)
+alike-from : (n : ℕ) (s : List ℕ) (over : Bool) (x y : State) → AsMany x y → Alike (runFrom n s over x) (runFrom n s over y)
 unfolding runFrom
 alike-from zero s over x y w = record { at = refl; ending = refl; accepted = w .0; refused = w .1 }
 alike-from (suc n) s over x y w = go (λ len. alike-from n (drop len s) over) (nextOf s over)
@@ -153,7 +153,7 @@ alike-from (suc n) s over x y w = go (λ len. alike-from n (drop len s) over) (n
     further : (len : ℕ) (a b : Run) → Alike a b → Alike (behind len a) (behind len b)
     further len a b r = record { at = ap (λ k. len + k) (r .at); ending = r .ending; accepted = r .accepted; refused = r .refused }
 
-    go : ((len : ℕ) (a b : State) → Even a b → Alike (runFrom n (drop len s) over a) (runFrom n (drop len s) over b)) → (z : Next)
+    go : ((len : ℕ) (a b : State) → AsMany a b → Alike (runFrom n (drop len s) over a) (runFrom n (drop len s) over b)) → (z : Next)
         → Alike (goOn s x (λ len to. runFrom n (drop len s) over to) z) (goOn s y (λ len to. runFrom n (drop len s) over to) z)
     go ih next.Ended = record { at = refl; ending = refl; accepted = w .0; refused = w .1 }
     go ih next.Stopped = record { at = refl; ending = refl; accepted = w .0; refused = ap (λ k. up k 1) (w .1) }

@@ -1,7 +1,7 @@
 -- A ledger's cells and its rows: each is had from the other, place by place. Assumes nothing.
 use mathlib.Core.List.{List, [], _∷_, _++_, append-nil}
 use mathlib.Core.Path.{_≡_, refl, ap, sym, _∙_, subst}
-use Prim.Native.Nat.{ℕ, zero, suc, _+_, _-_, _/_, _%_, _≤_, _<_, _^_}
+use Prim.Native.Nat.{ℕ, zero, suc, _+_, _-_, _/_, _%_, _≤_, _<_}
 use native.Mathlib.Omega.{arith}
 use lib.Dec.{ltb}
 use lib.ListN.{length, getD, replicate, length-append, length-replicate, List·getD-append, List·getD-eq-default}
@@ -39,14 +39,6 @@ row-is cells i r h p = record {
   reading = h 2 (omega arith) p;
   time = h 3 (omega arith) p;
 }
-
--- an empty place has numbers of 32 bits
-blank : (j : ℕ) → j < wide → getD (rowCells (newRow 0)) j 0 < 2 ^ 32
-blank zero h = omega arith
-blank (suc zero) h = omega arith
-blank (suc (suc zero)) h = omega arith
-blank (suc (suc (suc zero))) h = omega arith
-blank (suc (suc (suc (suc j)))) h = absurd (omega arith)
 
 -- a cell is one of the ledger's own, or number j at a place
 by-cell : (P : ℕ → Type 0) → ((j : ℕ) → j < head → P j) → ((i j : ℕ) → j < wide → P (rowPlace i + j)) → (q : ℕ) → P q
@@ -136,15 +128,14 @@ module _ (rows : List Row) where
       map-same (rowIn (cellsOf rows)) (λ i. getD rows i (newRow 0)) (upto (length rows))
       (λ i h. row-get i (omega (arith, within-upto i (length rows) h))) ∙ read-upto rows (newRow 0)
 
-  -- what is below a bound in every row is below it in every cell
-  pub cells-small : length rows ≤ 256 → (b : ℕ) → 2 ^ 32 ≤ b → ((i : ℕ) → i < length rows → (j : ℕ) → j < wide → getD (rowCells (getD rows i (newRow 0))) j 0 < b)
+  -- what is below a bound at every place is below it in every cell
+  pub cells-small : length rows ≤ 256 → (b : ℕ) → 256 < b → ((i j : ℕ) → j < wide → getD (rowCells (getD rows i (newRow 0))) j 0 < b)
       → (q : ℕ) → getD (cellsOf rows) q 0 < b
   cells-small few b p small =
       by-cell (λ q. getD (cellsOf rows) q 0 < b)
       (λ j h. let e : j ≡ 0 = omega arith in subst (λ q. getD (cellsOf rows) q 0 < b) (sym e) (rw count-back (omega arith)))
       (λ i j h. test (ltb i 256)
-      (λ t. rw (part-get i j (omega (arith, ltb-true i 256 t)) h) (test (ltb i (length rows)) (λ u. small i (ltb-true i (length rows) u) j h)
-      (λ f. omega (arith, ap (λ r. getD (rowCells r) j 0) (List·getD-eq-default rows (newRow 0) (ltb-false i (length rows) f)), blank j h))))
+      (λ t. rw (part-get i j (omega (arith, ltb-true i 256 t)) h) (small i j h))
       (λ f. rw (List·getD-eq-default (cellsOf rows) 0 {n = rowPlace i + j} (omega (arith, cells-long few, ltb-false i 256 f))) (omega arith)))
 
   -- it keeps the rules where they do

@@ -16,10 +16,10 @@ use Rattle.blocks.specs.Statistics.{latestTime, reportEntry}
 use Rattle.blocks.specs.declared.statistics.Entry.{Entry as Counter}
 use Rattle.blocks.specs.declared.statistics.Statistics.{Statistics}
 use Rattle.blocks.proofs.SmallLaws.{type-small, count-small}
-use Rattle.rows.specs.Rows.{Row, Entry, newRow, sinceLast, midnight, adds, addUp, rowOf, has, lifeOf, orNew}
+use Rattle.rows.specs.Rows.{Row, Entry, newRow, addUp, rowOf, has, lifeOf, orNew}
 use Rattle.rows.specs.Posting.{newKeys, rowsFor, addEntry, passes, Sorted}
 use Rattle.rows.proofs.Rows.{sorted-add, row-own, row-other}
-use Rattle.rows.proofs.Theorems.{adding-key}
+use Rattle.rows.proofs.Theorems.{adding-key, adds-between}
 use Rattle.ledger.specs.Ledgers.{rowIn, countOf, rowsOf, putRow}
 use Rattle.ledger.specs.Reports.{firstKey, entryOf, entriesFrom, entriesAt}
 use Rattle.ledger.specs.Steps.{Kept, KeyPlace, RowAt, Noted, Known}
@@ -30,16 +30,10 @@ use Rattle.ledger.proofs.PlaceLaws.{put-stays, at-row, row-adds, own-li
 
 -- An entry raises a life count by its own count at most
 
-adds-few : (r : Row) (e : Entry) → adds r e ≤ e .count
-adds-few r e =
-    test (sinceLast e) (λ t. rw t (omega arith))
-    (λ f. rw f (test (midnight r e) (λ t. rw t (omega arith))
-    (λ n. rw n (test (leb (r .reading) (e .count)) (λ t. rw t (omega arith)) (λ g. rw g (omega arith))))))
-
 added-life : (k : ℕ) (o : Option Row) (e : Entry) → addUp (orNew k o) e .life ≤ lifeOf o + e .count
 unfolding addUp
-added-life k none e = omega (arith, adds-few (newRow k) e)
-added-life k (some r) e = omega (arith, adds-few r e)
+added-life k none e = omega (arith, adds-between (newRow k) e)
+added-life k (some r) e = omega (arith, adds-between r e)
 
 raises : (rows : List Row) (e : Entry) → Sorted rows → (k : ℕ) → lifeOf (rowOf (addEntry addUp rows e) k) ≤ lifeOf (rowOf rows k) + e .count
 raises rows e s k =
@@ -155,17 +149,15 @@ module _ (s : List ℕ) (at : ℕ) (places : List ℕ) (i : ℕ) (p : Placed s a
   pub placed-more : (t : ℕ) → t ≡ reportEntry s at i .typ → getD places t 0 < 256 → Placed s at places (i + 1)
   placed-more t e h = below-more (λ j. getD places (reportEntry s at j .typ) 0 < 256) i p (subst (λ u. getD places u 0 < 256) e h)
 
-  -- at the end all are known
-  pub placed-end : (cells : List ℕ) (r : Statistics) → r .at ≡ at → Noted cells (firstKey r) places → r .count < 256 → r .count ≤ i → Known cells s r places
-  placed-end cells r is w few h = record {
-    few = few;
-    long = w .long;
-    rows = λ j l. w .rows (reportEntry s (r .at) j .typ) (type-small s (r .at) j) (there j l);
-    far = λ j l. w .far (reportEntry s (r .at) j .typ) (type-small s (r .at) j) (there j l);
-  }
-    where
-      there : (j : ℕ) → j < r .count → getD places (reportEntry s (r .at) j .typ) 0 < 256
-      there j l = subst (λ a. getD places (reportEntry s a j .typ) 0 < 256) (sym is) (p j (omega arith))
+-- at the end all are known
+pub placed-end : (s : List ℕ) (r : Statistics) (places : List ℕ) (i : ℕ) → Placed s (r .at) places i
+    → (cells : List ℕ) → Noted cells (firstKey r) places → r .count < 256 → r .count ≤ i → Known cells s r places
+placed-end s r places i p cells w few h = record {
+  few = few;
+  long = w .long;
+  rows = λ j l. w .rows (reportEntry s (r .at) j .typ) (type-small s (r .at) j) (p j (omega arith));
+  far = λ j l. w .far (reportEntry s (r .at) j .typ) (type-small s (r .at) j) (p j (omega arith));
+}
 
 -- `post_known`: an entry is added up at its row's place
 

@@ -21,7 +21,7 @@ use Rattle.ledger.specs.Pages.{pageOf, untimed, NoTimes, rowAt, countIn,
 use Rattle.ledger.specs.Steps.{Narrow, Ruled, Kept}
 use Rattle.ledger.specs.declared.Answer.{Answer}
 use Rattle.ledger.proofs.CellLaws.{cells-long, cells-small, rows-back, kept-of, ruled-none}
-use Rattle.ledger.proofs.RowPlaces.{each-from, each-at}
+use Rattle.ledger.proofs.RowPlaces.{each-from, each-at, each-everywhere}
 use Rattle.ledger.proofs.RuleLaws.{kept-rules, rules-kept}
 use Rattle.ledger.proofs.TableLaws.{listed-many}
 use Rattle.ledger.proofs.PageLaws.{Small, small-in, page-back, head-says, page-rows}
@@ -50,7 +50,8 @@ part-small r s (suc (suc (suc (suc j)))) h = absurd (omega arith)
 small-held : (rows : List Row) → length rows ≤ 256 → Each Small rows → Held (cellsOf rows)
 small-held rows few small = record {
   long = cells-long rows few;
-  small = cells-small rows few (2 ^ 64) (omega arith) (λ i m. part-small _ (each-at Small rows small i m));
+  small = cells-small rows few (2 ^ 64) (omega arith)
+      (λ i. part-small _ (each-everywhere Small (omega arith, omega arith, omega arith, omega arith) rows small i));
 }
 
 -- loading, by its tests

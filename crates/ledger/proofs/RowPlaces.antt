@@ -18,6 +18,12 @@ module _ (P : Row → Type 0) where
   each-at (r ∷ rows) e zero l = e .0
   each-at (r ∷ rows) e (suc i) l = each-at rows (e .1) i (le-of-suc-le-suc l)
 
+  -- and past the last row, where it holds of an empty one
+  pub each-everywhere : P (newRow 0) → (rows : List Row) → Each P rows → (i : ℕ) → P (getD rows i (newRow 0))
+  each-everywhere none [] e i = none
+  each-everywhere none (r ∷ rows) e zero = e .0
+  each-everywhere none (r ∷ rows) e (suc i) = each-everywhere none rows (e .1) i
+
   pub each-map : (Q : Row → Type 0) → ((r : Row) → P r → Q r) → (rows : List Row) → Each P rows → Each Q rows
   each-map Q f [] e = tt
   each-map Q f (r ∷ rows) e = (f r (e .0), each-map Q f rows (e .1))

@@ -2,13 +2,13 @@
 use mathlib.Core.List.{List, [], _∷_}
 use mathlib.Core.Option.{Option, none, some}
 use mathlib.Core.Path.{_≡_, refl, ap, sym, _∙_}
-use Prim.Native.Nat.{ℕ, _≤_}
+use Prim.Native.Nat.{ℕ, _+_, _≤_}
 use native.Mathlib.Omega.{arith}
 use lib.Dec.{leb}
 use lib.ListN.{length}
 use borrow.Author.Tests.{leb-true}
 use Rattle.octets.proofs.Cases.{test}
-use Rattle.rows.specs.Rows.{Row, Entry, newRow, sinceLast, midnight, addUp, lastTime, rowOf, lifeOf, timeOf}
+use Rattle.rows.specs.Rows.{Row, Entry, newRow, sinceLast, midnight, adds, addUp, lastTime, rowOf, lifeOf, timeOf}
 use Rattle.rows.specs.Posting.{Report, entries, tally, ofKey, Good}
 use Rattle.rows.specs.Order.{Order, inOrder, answersInOrder, upto}
 use Rattle.rows.specs.Claims.{AnyOrder, RowRule, AllOrNothing, NeverFalls, StaysGood}
@@ -62,14 +62,20 @@ pub adding-grows : (r : Row) (e : Entry) → r .life ≤ addUp r e .life
 unfolding addUp
 adding-grows r e = omega arith
 
+-- what it adds is an entry's count at most, and with the reading the count at least
+pub adds-between : (r : Row) (e : Entry) → (adds r e ≤ e .count) × (e .count ≤ adds r e + r .reading)
+adds-between r e =
+    test (sinceLast e) (λ t. rw t (omega arith, omega arith))
+    (λ f. rw f (test (midnight r e) (λ t. rw t (omega arith, omega arith))
+    (λ n. rw n (test (leb (r .reading) (e .count)) (λ t. let h = leb-true (r .reading) (e .count) t in rw t (omega arith, omega arith))
+    (λ g. rw g (omega arith, omega arith))))))
+
 -- it leaves no reading above the life count
 pub adding-under : (r : Row) (e : Entry) → r .reading ≤ r .life → addUp r e .reading ≤ addUp r e .life
 unfolding addUp
 adding-under r e h =
     test (sinceLast e) (λ t. rw t (omega arith))
-    (λ f. rw f (test (midnight r e) (λ t. rw t (omega arith))
-    (λ n. rw n (test (leb (r .reading) (e .count))
-    (λ t. let g = leb-true (r .reading) (e .count) t in rw t (omega arith)) (λ g. rw g (omega arith))))))
+    (λ f. let w = rw f at (adds-between r e .1) in rw f (omega arith))
 
 -- it keeps the time of the last from-midnight entry
 pub adding-time : (k : ℕ) (row : Option Row) (es : List Entry) → timeOf (tally addUp k row es) ≡ lastTime (timeOf row) es

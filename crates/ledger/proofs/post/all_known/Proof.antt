@@ -1,6 +1,6 @@
 -- `all_known`: the loop's invariant is that the entries so far have places. Assumes nothing.
 use mathlib.Core.Bool.{false≢true}
-use mathlib.Core.Path.{refl, ap, sym}
+use mathlib.Core.Path.{ap, sym}
 use Prim.Native.Nat.{_-_}
 use native.Mathlib.Omega.{arith}
 use borrow.Author.Needs.{needs}
@@ -25,7 +25,7 @@ returns-3 : tie.Need-returns-3 Inv-loop μ-loop
 returns-3 c q =
     let n = c .before .before in
     let f = n .before .before in
-    placed-end _ _ _ _ (c .before .loop .inv) _ _ refl (noted-same _ _ (f .first-key .ensures .0) (n .note-rows .ensures)) (search needs)
+    placed-end _ _ _ _ (c .before .loop .inv) _ (noted-same _ _ (f .first-key .ensures .0) (n .note-rows .ensures)) (search needs)
     (c .loop-test .left)
 
 pub all-known-spec : {M : Type 1} → statement M
