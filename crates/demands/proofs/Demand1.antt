@@ -15,11 +15,11 @@ use Rattle.blocks.specs.declared.record.Record.{Record}
 use Rattle.writing.specs.Written.{writeOf, rewriteOf}
 use Rattle.octets.specs.declared.output.Written.{Written}
 use Rattle.ledger.specs.Ledgers.{answer, rowsOf, changed, keepsRules, Held}
-use Rattle.ledger.specs.Pages.{pageOf, untimed, NoTimes, storeOf, loadOf}
+use Rattle.pages.specs.Pages.{pageOf, untimed, NoTimes, storeOf, loadOf}
 use Rattle.ledger.specs.declared.Answer.{Answer}
 use Rattle.ledger.specs.declared.Ledger.{Ledger}
 use Rattle.ledger.proofs.CellLaws.{ledger-same}
-use Rattle.ledger.proofs.PageTheorems.{store-load, load-store, loaded-untimed, untimed-load}
+use Rattle.pages.proofs.PageTheorems.{store-load, load-store, loaded-untimed, untimed-load}
 use Rattle.ledger.proofs.PostTheorems.{posted-same}
 use Rattle.doors.specs.Cell.{feedCellCount}
 use Rattle.doors.specs.Feeds.{isOver, feedRun, pageFed, feedCells}

@@ -12,12 +12,12 @@ use Rattle.octets.specs.Outcomes.{Outcome, no, puts, within, outputOf, outcomeL
 use Rattle.octets.specs.Refusals.{rulesBroken}
 use Rattle.rows.specs.Rows.{Row}
 use Rattle.ledger.specs.Ledgers.{cellsOf}
-use Rattle.ledger.specs.Pages.{loadOf, storeOf}
+use Rattle.pages.specs.Pages.{loadOf, storeOf}
 use Rattle.ledger.specs.Steps.{Kept}
 use Rattle.ledger.specs.declared.Answer.{Answer}
 use Rattle.ledger.proofs.CellLaws.{rows-back}
 use Rattle.ledger.proofs.RuleLaws.{rules-kept}
-use Rattle.ledger.proofs.PageTheorems.{loaded-good}
+use Rattle.pages.proofs.PageTheorems.{loaded-good}
 use Rattle.feed.specs.Runs.{doneOf}
 use Rattle.feed.proofs.KeptRuns.{kept-run}
 use Rattle.doors.specs.Cell.{feedCellCount}

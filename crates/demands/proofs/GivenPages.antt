@@ -12,10 +12,10 @@ use Rattle.octets.specs.Refusals.{rulesBroken}
 use Rattle.octets.specs.declared.output.Written.{Written}
 use Rattle.octets.proofs.Cases.{test, choose}
 use Rattle.ledger.specs.Ledgers.{answer, rowsOf, cellsOf, keepsRules}
-use Rattle.ledger.specs.Pages.{pageOf, storeOf, headKeeps, cellsIn, loadOf}
+use Rattle.pages.specs.Pages.{pageOf, storeOf, headKeeps, cellsIn, loadOf}
 use Rattle.ledger.specs.declared.Answer.{Answer}
 use Rattle.ledger.specs.declared.Ledger.{Ledger}
-use Rattle.ledger.proofs.PageLaws.{head-says}
+use Rattle.pages.proofs.PageLaws.{head-says}
 use Rattle.demands.specs.Contracts.{Loads, Stores}
 use Rattle.demands.specs.GivenPages.{PageHead, Page, NoPage, StoreFault}
 use Rattle.demands.proofs.GivenOutputs.{no-same, not-puts, output-given, output-written}

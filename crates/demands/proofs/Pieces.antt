@@ -15,10 +15,10 @@ use Rattle.octets.proofs.Cases.{test}
 use Rattle.octets.proofs.Parts.{Octets-take}
 use Rattle.rows.specs.Rows.{Row}
 use Rattle.ledger.specs.Ledgers.{answer, rowsOf, cellsOf}
-use Rattle.ledger.specs.Pages.{pageOf, untimed, loadOf, storeOf}
+use Rattle.pages.specs.Pages.{pageOf, untimed, loadOf, storeOf}
 use Rattle.ledger.specs.declared.Answer.{Answer}
 use Rattle.ledger.proofs.CellLaws.{rows-back}
-use Rattle.ledger.proofs.PageTheorems.{kept-load, none-untimed}
+use Rattle.pages.proofs.PageTheorems.{kept-load, none-untimed}
 use Rattle.feed.specs.Runs.{state, Run, behind, runOver, zeros, doneOf}
 use Rattle.feed.specs.Totals.{up}
 use Rattle.feed.specs.declared.run.Done.{Done}

@@ -11,8 +11,8 @@ use Rattle.ledger.proofs.fresh as fresh
 use Rattle.ledger.proofs.rules.check as check
 use Rattle.ledger.proofs.post.post as post
 use Rattle.ledger.proofs.lent.post_lent as post-lent
-use Rattle.ledger.proofs.page.load as load
-use Rattle.ledger.proofs.page.store as store
+use Rattle.pages.proofs.load as load
+use Rattle.pages.proofs.store as store
 use Rattle.feed.proofs.block.next_block as next-block
 use Rattle.doors.proofs.wear_version as wear-version
 use Rattle.doors.proofs.wear_read as wear-read

@@ -13,7 +13,7 @@ use Rattle.blocks.specs.declared.cursor.Step.{Step}
 use Rattle.blocks.specs.declared.cursor.Found.{Found}
 use Rattle.octets.specs.Outcomes.{Outcome, within, answerOf, outputOf, listedWritten, outcomeListed}
 use Rattle.ledger.specs.Ledgers.{answer, cellsOf, rulesRefusal}
-use Rattle.ledger.specs.Pages.{loadOf, storeOf}
+use Rattle.pages.specs.Pages.{loadOf, storeOf}
 use Rattle.ledger.specs.Posts.{postOf}
 use Rattle.ledger.specs.declared.Answer.{Answer}
 use Rattle.ledger.specs.declared.Ledger.{Ledger}
@@ -70,11 +70,11 @@ Posts l s k r = r ≡ postOf (l .cells) s k
 abbrev pub LentPosts : Ledger → List ℕ → ℕ → Ledger → ℕ → Type 0
 LentPosts l s k after r = answer r (after .cells) ≡ postOf (l .cells) s k
 
--- ledger::page::load: the page, the answer with the ledger
+-- pages::load: the page, the answer with the ledger
 abbrev pub Loads : List ℕ → Answer → Type 0
 Loads s r = r ≡ loadOf s
 
--- ledger::page::store: the ledger, the output before and after, the answer
+-- pages::store: the ledger, the output before and after, the answer
 abbrev pub Stores : Ledger → List ℕ → List ℕ → Written → Type 0
 Stores l o out r = Puts (storeOf (l .cells)) o out r
 

@@ -4,7 +4,7 @@ use mathlib.Core.List.{List}
 use mathlib.Core.Path.{_≡_}
 use Prim.Native.Nat.{ℕ}
 use Rattle.octets.specs.Refusals.{rulesBroken}
-use Rattle.ledger.specs.Pages.{pageOf}
+use Rattle.pages.specs.Pages.{pageOf}
 use Rattle.doors.specs.Feeds.{isOver, feedRun}
 use Rattle.demands.specs.Given.{OutputFault}
 use Rattle.demands.specs.GivenPages.{Page, NoPage}

@@ -9,7 +9,7 @@ use lib.ListN.{length}
 use Rattle.octets.specs.Numbers.{number}
 use Rattle.octets.specs.Refusals.{rulesBroken}
 use Rattle.ledger.specs.Ledgers.{rowsOf, keepsRules}
-use Rattle.ledger.specs.Pages.{keysAt, readingsAt, pageLength, pageOf, countIn, headKeeps, cellsIn}
+use Rattle.pages.specs.Pages.{keysAt, readingsAt, pageLength, pageOf, countIn, headKeeps, cellsIn}
 use Rattle.ledger.specs.declared.Ledger.{Ledger}
 use Rattle.demands.specs.Given.{OutputFault}
 

@@ -4,7 +4,7 @@ use mathlib.Core.List.{List}
 use mathlib.Core.Path.{_≡_}
 use Prim.Native.Nat.{ℕ, _+_}
 use lib.ListN.{getD, take, drop}
-use Rattle.ledger.specs.Pages.{NoTimes}
+use Rattle.pages.specs.Pages.{NoTimes}
 use Rattle.feed.specs.Totals.{up}
 use Rattle.feed.specs.declared.run.Ending.{Ending}
 use Rattle.doors.specs.Cell as wear

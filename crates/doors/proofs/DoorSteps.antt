@@ -13,11 +13,11 @@ use Rattle.octets.proofs.Outcomes.{Says}
 use Rattle.blocks.specs.declared.record.Record.{Record}
 use Rattle.writing.specs.Written.{writeOf}
 use Rattle.ledger.specs.Ledgers.{rowsOf, cellsOf}
-use Rattle.ledger.specs.Pages.{loadOf, storeOf}
+use Rattle.pages.specs.Pages.{loadOf, storeOf}
 use Rattle.ledger.specs.Posts.{postOf}
 use Rattle.ledger.specs.Steps.{Kept}
 use Rattle.ledger.specs.declared.Answer.{Answer}
-use Rattle.ledger.proofs.PageTheorems.{loaded-good}
+use Rattle.pages.proofs.PageTheorems.{loaded-good}
 use Rattle.feed.specs.Runs.{state, Run, runOver, zeros, doneOf}
 use Rattle.feed.specs.declared.run.Done.{Done}
 use Rattle.doors.specs.Cell.{feedCellCount}

@@ -11,7 +11,7 @@ use Rattle.octets.specs.Refusals.{outputTooShort}
 use Rattle.blocks.specs.Walks.{ReadListed}
 use Rattle.blocks.specs.Steps.{StepListed, EntryListed}
 use Rattle.writing.specs.Written.{writeOf}
-use Rattle.ledger.specs.Pages.{loadOf, storeOf}
+use Rattle.pages.specs.Pages.{loadOf, storeOf}
 use Rattle.ledger.specs.Posts.{postOf}
 use Rattle.ledger.specs.declared.Answer.{Answer}
 use Rattle.doors.specs.Cells.{recordCells, recordOf, cellsRefusal}

@@ -9,7 +9,7 @@ use Rattle.octets.specs.Outcomes.{Outcome, no, puts, answerOf}
 use Rattle.octets.specs.declared.output.Written.{Written}
 use Rattle.octets.specs.declared.output.Written.the-variants as written
 use Rattle.ledger.specs.Ledgers.{rowsOf, cellsOf}
-use Rattle.ledger.specs.Pages.{loadOf, storeOf}
+use Rattle.pages.specs.Pages.{loadOf, storeOf}
 use Rattle.feed.specs.Runs.{state, Run, runOver, zeros, doneOf}
 use Rattle.feed.specs.declared.run.Done.{Done}
 use Rattle.feed.specs.declared.run.Ending.{Ending}

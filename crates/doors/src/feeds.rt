@@ -9,10 +9,10 @@ use feed::run::Ending;
 use feed::run::run;
 use feed::totals::ZEROS;
 use ledger::Ledger;
-use ledger::page::load;
-use ledger::page::store;
 use octets::output::Written;
 use octets::refusal;
+use pages::load;
+use pages::store;
 
 // How a run left off: WEAR_ENDED, WEAR_STOPPED and WEAR_MORE of include/wear.h.
 const ENDED: u64 = 0;

@@ -30,11 +30,11 @@ use blocks::cursor::Step;
 use blocks::cursor::entry;
 use blocks::walk::Reading;
 use blocks::walk::read;
-use ledger::page::load;
-use ledger::page::store;
 use ledger::post::post;
 use octets::output::Written;
 use octets::refusal;
+use pages::load;
+use pages::store;
 use writing::block::rewrite;
 use writing::block::write;
 

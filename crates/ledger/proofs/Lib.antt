@@ -15,9 +15,5 @@ pub mod LoopSteps
 pub mod KnownLaws
 pub mod PostSteps
 pub mod PostTheorems
-pub mod PageLaws
-pub mod PageSteps
-pub mod PutSteps
-pub mod PageTheorems
 pub mod LentLaws
 pub mod Examples

@@ -1,5 +1,4 @@
 pub mod Ledgers
 pub mod Reports
 pub mod Posts
-pub mod Pages
 pub mod Steps

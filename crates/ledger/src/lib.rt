@@ -1,4 +1,4 @@
-// The ledger: rows of counters, posting, pages.
+// The ledger: rows of counters, posting.
 ghost use mathlib.Core.Path.{_≡_};
 ghost use mathlib.Core.List.{[]};
 ghost use Rattle.ledger.specs.Ledgers.{cellsOf};
@@ -6,7 +6,6 @@ ghost use Rattle.ledger.specs.Ledgers.{cellsOf};
 pub mod cells;
 pub mod entries;
 pub mod lent;
-pub mod page;
 pub mod places;
 pub mod post;
 pub mod rules;

@@ -51,7 +51,7 @@ fn is_place_kept(cells: &[u64; CELLS], i: usize) -> bool
 }
 
 // Whether lent cells keep the rules.
-pub(crate) fn is_kept(cells: &[u64; CELLS]) -> bool
+pub fn is_kept(cells: &[u64; CELLS]) -> bool
     ensures { λ r. ⌜ r ≡ keepsRules (now (cells .entry)) ⌝ }
 {
     if count_of(cells) > ROWS {

@@ -10,8 +10,8 @@ use ledger::cells::ROWS;
 use ledger::cells::Row;
 use ledger::cells::put_row;
 use ledger::cells::row_at;
-use ledger::page::load;
 use ledger::post::post;
+use pages::load;
 use text::more;
 use text::number;
 

@@ -15,13 +15,13 @@ use Rattle.octets.proofs.Laying.{laid-none, laid-laid}
 use Rattle.octets.proofs.Outcomes.{Says, says-short, says-puts}
 use Rattle.rows.specs.Rows.{Row}
 use Rattle.rows.specs.Order.{upto}
 use Rattle.ledger.specs.Ledgers.{rowIn, countOf, rowsOf, table, keepsRules}
-use Rattle.ledger.specs.Pages.{keysAt, readingsAt, pageLength, headOf, keyOctets, countOctets, pageOf, storeOf}
+use Rattle.pages.specs.Pages.{keysAt, readingsAt, pageLength, headOf, keyOctets, countOctets, pageOf, storeOf}
 use Rattle.ledger.specs.Steps.{Kept}
 use Rattle.ledger.proofs.RuleTests.{rules-few}
 use Rattle.ledger.proofs.CellLaws.{rows-many}
 use Rattle.ledger.proofs.TableLaws.{listed-many, listed-more, length-table, table-laid}
-use Rattle.ledger.proofs.PageLaws.{key-wide, head-long, page-long}
+use Rattle.pages.proofs.PageLaws.{key-wide, head-long, page-long}
 
 -- A table being filled from an offset on: the first i rows of n so far
 pub record Filled (f : Row → List ℕ) (at n : ℕ) (cells out₀ out : List ℕ) (i : ℕ) : Type 0 where

@@ -15,8 +15,8 @@ use Rattle.rows.specs.Rows.{Row, noTime, newRow}
 use Rattle.rows.specs.Order.{upto}
 use Rattle.rows.specs.Posting.{Each}
 use Rattle.rows.proofs.Numbers.{map-same, map-twice, read-upto, within-upto, at-upto}
 use Rattle.ledger.specs.Ledgers.{table}
-use Rattle.ledger.specs.Pages.{
+use Rattle.pages.specs.Pages.{
   keysAt,
   readingsAt,
   pageLength,

@@ -3,12 +3,12 @@ use mathlib.Core.Path.{ap}
 use Prim.Native.Nat.{_-_}
 use native.Mathlib.Omega.{arith}
 use borrow.Author.Needs.{needs}
-use Rattle.ledger.specs.Pages.{keysAt, readingsAt, keyOctets, countOctets}
+use Rattle.pages.specs.Pages.{keysAt, readingsAt, keyOctets, countOctets}
 use Rattle.ledger.proofs.CellLaws.{kept-narrow}
-use Rattle.ledger.proofs.PageLaws.{key-wide, count-wide}
-use Rattle.ledger.proofs.PutSteps as steps
-use Rattle.ledger.proofs.page.put_page.Statement.{statement}
-use Rattle.ledger.proofs.page.put_page.Tie as tie
+use Rattle.pages.proofs.PageLaws.{key-wide, count-wide}
+use Rattle.pages.proofs.PutSteps as steps
+use Rattle.pages.proofs.put_page.Statement.{statement}
+use Rattle.pages.proofs.put_page.Tie as tie
 
 abbrev Inv-loop : tie.InvT-loop
 Inv-loop out₀ cells n i₀ out i = steps.Filled keyOctets keysAt n cells out₀ out i

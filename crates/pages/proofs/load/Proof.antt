@@ -2,12 +2,12 @@
 use Prim.Native.Nat.{_-_}
 use mathlib.Core.Path.{_≡_}
 use Rattle.rows.specs.Rows.{noTime}
-use Rattle.ledger.specs.Pages.{cellsIn}
+use Rattle.pages.specs.Pages.{cellsIn}
 use borrow.Author.Needs.{needs}
 use borrow.Author.Tests.{not-true, not-false}
-use Rattle.ledger.proofs.PageSteps as steps
-use Rattle.ledger.proofs.page.load.Statement.{statement}
-use Rattle.ledger.proofs.page.load.Tie as tie
+use Rattle.pages.proofs.PageSteps as steps
+use Rattle.pages.proofs.load.Statement.{statement}
+use Rattle.pages.proofs.load.Tie as tie
 
 abbrev Inv-loop : tie.InvT-loop
 Inv-loop page n cells₀ i₀ cells i = steps.Loaded page n cells i

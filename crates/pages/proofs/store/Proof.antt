@@ -4,11 +4,11 @@ use native.Mathlib.Omega.{arith}
 use borrow.Author.Needs.{needs}
 use borrow.Author.Tests.{not-true, not-false}
 use Rattle.octets.proofs.Outcomes.{says-no}
 use Rattle.ledger.proofs.HeldLaws.{held}
-use Rattle.ledger.proofs.PutSteps.{store-broken, store-few, store-short, store-whole}
+use Rattle.pages.proofs.PutSteps.{store-broken, store-few, store-short, store-whole}
 use Rattle.ledger.proofs.RuleLaws.{kept-rules}
-use Rattle.ledger.proofs.page.store.Statement.{statement}
-use Rattle.ledger.proofs.page.store.Tie as tie
+use Rattle.pages.proofs.store.Statement.{statement}
+use Rattle.pages.proofs.store.Tie as tie
 
 -- the row count of a ledger that keeps the rules
 few : tie.Need-mul-size

@@ -16,17 +16,17 @@ use Rattle.rows.specs.Rows.{Row, noTime}
 use Rattle.rows.specs.Order.{upto}
 use Rattle.rows.specs.Posting.{Above, Sorted, Each}
 use Rattle.rows.proofs.Cases.{either}
 use Rattle.ledger.specs.Ledgers.{wide, rowCells, answer, rowsOf, cellsOf, changed, timeKeeps, keepsRules, Held}
-use Rattle.ledger.specs.Pages.{pageOf, untimed, NoTimes, rowAt, countIn, rowsIn, cellsIn, headKeeps, loadOf, storeOf}
+use Rattle.pages.specs.Pages.{pageOf, untimed, NoTimes, rowAt, countIn, rowsIn, cellsIn, headKeeps, loadOf, storeOf}
 use Rattle.ledger.specs.Steps.{Narrow, Ruled, Kept}
 use Rattle.ledger.specs.declared.Answer.{Answer}
 use Rattle.ledger.proofs.CellLaws.{cells-long, cells-small, rows-back, kept-of, ruled-none}
 use Rattle.ledger.proofs.RowPlaces.{each-from, each-at, each-everywhere}
 use Rattle.ledger.proofs.RuleLaws.{kept-rules, rules-kept}
 use Rattle.ledger.proofs.TableLaws.{listed-many}
-use Rattle.ledger.proofs.PageLaws.{Small, small-in, page-back, head-says, page-rows}
-use Rattle.ledger.proofs.PageSteps.{load-kept}
-use Rattle.ledger.proofs.PutSteps.{store-puts}
+use Rattle.pages.proofs.PageLaws.{Small, small-in, page-back, head-says, page-rows}
+use Rattle.pages.proofs.PageSteps.{load-kept}
+use Rattle.pages.proofs.PutSteps.{store-puts}
 
 -- What the rules and the widths hold of rows
 

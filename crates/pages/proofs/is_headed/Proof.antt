@@ -1,8 +1,8 @@
 -- `is_headed`: the tests are the definition's, with the numbers as they were read. Assumes nothing.
 use borrow.Author.Needs.{needs}
-use Rattle.ledger.proofs.PageSteps.{head-short, head-tests}
-use Rattle.ledger.proofs.page.is_headed.Statement.{statement}
-use Rattle.ledger.proofs.page.is_headed.Tie as tie
+use Rattle.pages.proofs.PageSteps.{head-short, head-tests}
+use Rattle.pages.proofs.is_headed.Statement.{statement}
+use Rattle.pages.proofs.is_headed.Tie as tie
 
 pub is-headed-spec : {M : Type 1} → statement M
 is-headed-spec =

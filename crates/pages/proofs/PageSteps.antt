@@ -14,13 +14,13 @@ use Rattle.octets.proofs.Cases.{test}
 use Rattle.rows.specs.Rows.{Row, newRow}
 use Rattle.rows.specs.Order.{upto}
 use Rattle.rows.proofs.Numbers.{at-upto}
 use Rattle.ledger.specs.Ledgers.{ledgerCells, rowIn, countOf, cellsOf, putRow, answer, keepsRules}
-use Rattle.ledger.specs.Pages.{pageLength, countIn, headKeeps, rowAt, cellsIn, loadOf}
+use Rattle.pages.specs.Pages.{pageLength, countIn, headKeeps, rowAt, cellsIn, loadOf}
 use Rattle.ledger.specs.declared.Answer.{Answer}
 use Rattle.ledger.proofs.CellLaws.{cells-long, row-get, cells-are}
 use Rattle.ledger.proofs.ChangeLaws.{put-long, put-head, put-own, put-other, set-count}
 use Rattle.ledger.proofs.TableLaws.{listed-many}
-use Rattle.ledger.proofs.PageLaws.{head-says}
+use Rattle.pages.proofs.PageLaws.{head-says}
 
 -- octets that are fewer than a head
 pub head-short : (s : List ℕ) → length s < 8 → false ≡ headKeeps s
