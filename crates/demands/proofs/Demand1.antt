@@ -24,8 +24,7 @@ use Rattle.ledger.proofs.PostTheorems.{posted-same}
 use Rattle.doors.specs.Cell.{feedCellCount}
 use Rattle.doors.specs.Feeds.{isOver, feedRun, pageFed, feedCells}
 use Rattle.demands.specs.Contracts.{Writes, Rewrites, Posts, Loads, Stores, WearFeeds}
-use Rattle.demands.proofs.GivenOutputs.{puts-same}
-use Rattle.octets.proofs.Outcomes.{refused-same, written-laid}
+use Rattle.octets.proofs.Outcomes.{puts-same, refused-same, written-laid}
 use Rattle.octets.proofs.Cases.{test}
 
 -- A refusal leaves the output as it stood.

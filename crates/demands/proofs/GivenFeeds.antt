@@ -10,6 +10,7 @@ use lib.ListN.{length}
 use Rattle.octets.specs.Numbers.{Octets, laid}
 use Rattle.octets.specs.Outcomes.{Outcome, no, puts, within, outputOf, outcomeListed}
 use Rattle.octets.specs.Refusals.{rulesBroken}
+use Rattle.octets.proofs.Outcomes.{no-same, puts-same, not-puts}
 use Rattle.rows.specs.Rows.{Row}
 use Rattle.ledger.specs.Ledgers.{cellsOf}
 use Rattle.pages.specs.Pages.{loadOf, storeOf}
@@ -25,7 +26,7 @@ use Rattle.doors.specs.Feeds.{isOver, feedRun, pageFed, doneCells, feedCells}
 use Rattle.demands.specs.Contracts.{WearFeeds}
 use Rattle.demands.specs.GivenPages.{Page, NoPage}
 use Rattle.demands.specs.GivenFeeds.{fedPage, FeedFault}
-use Rattle.demands.proofs.GivenOutputs.{no-same, puts-same, not-puts, within-puts, number-given, number-written}
+use Rattle.demands.proofs.GivenOutputs.{within-puts, number-given, number-written}
 use Rattle.demands.proofs.GivenPages.{page-or-not, load-page, load-none}
 
 -- where there is a page, the ledger that the run leaves is stored

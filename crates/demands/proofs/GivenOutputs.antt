@@ -15,15 +15,6 @@ use Rattle.octets.proofs.Cases.{choose}
 use Rattle.octets.proofs.Outcomes.{says-no, says-short, says-puts, written-laid}
 use Rattle.demands.specs.Given.{OutputFault, own, outputShort}
 
-pub no-same : {n m : ℕ} → no n ≡ no m → n ≡ m
-no-same e = cc
-
-pub puts-same : {xs ys : List ℕ} → puts xs ≡ puts ys → xs ≡ ys
-puts-same e = cc
-
-pub not-puts : {n : ℕ} {xs : List ℕ} → no n ≡ puts xs → ⊥
-not-puts e = let z : _≡_ {A = ℕ} 0 1 = cc in omega arith
-
 not-written : {n k : ℕ} → Written.Octets k ≡ Written.Refused n → ⊥
 not-written h = let z : _≡_ {A = ℕ} 0 1 = cc in omega arith
 

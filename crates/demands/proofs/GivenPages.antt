@@ -11,6 +11,7 @@ use Rattle.octets.specs.Outcomes.{no, puts}
 use Rattle.octets.specs.Refusals.{rulesBroken}
 use Rattle.octets.specs.declared.output.Written.{Written}
 use Rattle.octets.proofs.Cases.{test, choose}
+use Rattle.octets.proofs.Outcomes.{no-same, not-puts}
 use Rattle.ledger.specs.Ledgers.{answer, rowsOf, cellsOf, keepsRules}
 use Rattle.pages.specs.Pages.{pageOf, storeOf, headKeeps, cellsIn, loadOf}
 use Rattle.ledger.specs.declared.Answer.{Answer}
@@ -18,7 +19,7 @@ use Rattle.ledger.specs.declared.Ledger.{Ledger}
 use Rattle.pages.proofs.PageLaws.{head-says}
 use Rattle.demands.specs.Contracts.{Loads, Stores}
 use Rattle.demands.specs.GivenPages.{PageHead, Page, NoPage, StoreFault}
-use Rattle.demands.proofs.GivenOutputs.{no-same, not-puts, output-given, output-written}
+use Rattle.demands.proofs.GivenOutputs.{output-given, output-written}
 
 -- A page's head, in words.
 pub head-given : (s : List ℕ) → (headKeeps s ≡ true) ↔ PageHead s

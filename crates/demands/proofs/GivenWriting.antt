@@ -14,6 +14,7 @@ use Rattle.octets.specs.Outcomes.{no, puts}
 use Rattle.octets.specs.Refusals.{unknownCategory, noneMarked, spareMarked, presenceBroken}
 use Rattle.octets.specs.declared.output.Written.{Written}
 use Rattle.octets.proofs.Cases.{test, choose}
+use Rattle.octets.proofs.Outcomes.{no-same, not-puts}
 use Rattle.layouts.specs.Layouts.{isUnused}
 use Rattle.layouts.specs.Tables.{layout}
 use Rattle.layouts.specs.Categories.{known, category, layoutAt}
@@ -36,7 +37,7 @@ use Rattle.demands.specs.Contracts.{Writes, Rewrites}
 use Rattle.demands.specs.GivenWriting.{ItemFault, Marked, itemOn, NothingMarked, SpareOnMark, GoodMarks, FirstFaulty, GoodItems, itsBlock, TypedFault, Writable, WriteFault, normalOf, Unread, Accepted, RewriteFault}
 use Rattle.demands.proofs.GivenBlocks.{reading-given, full-read}
 use Rattle.demands.proofs.GivenItems.{item-fault, fault-item, not-zero, item-given-0, on, first-of, of-first, all-good, good-all, there}
-use Rattle.demands.proofs.GivenOutputs.{no-same, not-puts, output-given, output-written}
+use Rattle.demands.proofs.GivenOutputs.{output-given, output-written}
 
 -- A typed record; its marks have 32 bits
 

@@ -66,7 +66,7 @@ module _ (f : Row → List ℕ) (k : ℕ) (wide : (r : Row) → length (f r) ≡
 
   -- What is got from the numbers of a row wherever they lie is got from the table
 
-  module _ (P : Row → Type 0) (get : List ℕ → ℕ → ℕ) (part : Row → ℕ)
+  module _ {A : Type 0} (P : Row → Type 0) (get : List ℕ → ℕ → A) (part : Row → A)
       (gets : (r : Row) → P r → (p q : List ℕ) → get (p ++ (f r ++ q)) (length p) ≡ part r) where
     table-got : (p q : List ℕ) (rows : List Row) → Each P rows → (i : ℕ) → i < length rows
         → get (p ++ (table f rows ++ q)) (length p + k * i) ≡ part (getD rows i (newRow 0))

@@ -1,36 +1,102 @@
--- A midnight between two pages (02 §4), computed; a wrong one is refused. Assumes nothing.
-use mathlib.Core.List.{List, [], _∷_}
+-- Pages in octets (01 "Ledger", 02 §5), and a midnight between two pages (02 §4), computed; a wrong one is refused. Assumes nothing.
+use mathlib.Core.Bool.{true, false}
+use mathlib.Core.List.{List, [], _∷_, _++_}
 use mathlib.Core.Path.{_≡_, refl}
-use Prim.Native.Nat.{ℕ, _*_}
+use Prim.Native.Nat.{ℕ, _+_, _*_}
+use native.Mathlib.Omega.{arith}
 use Rattle.octets.specs.Numbers.{number, octets}
+use Rattle.octets.specs.Outcomes.{no, puts}
 use Rattle.rows.specs.Rows.{Row, noTime, addUp, rowOf}
 use Rattle.rows.specs.Order.{upto}
 use Rattle.rows.specs.Posting.{Report, counts, names, newKeys, addEntry, addAll, passes, postRows, after}
 use Rattle.ledger.specs.Ledgers.{table}
-use Rattle.pages.specs.Pages.{pageOf, rowsIn}
+use Rattle.pages.specs.Pages.{old, new, headLong, rowLong, pageLength, starts, startsOf, twos, tables, pageOf, rowFrom, rowsIn, stand, headKeeps}
 
--- the counter of P8: its row, and a report with a count since midnight, so many hours after it
+-- The heads: n, 8, 8 + 4n, 8 + 16n (01), and n, 10, 10 + 4n, 10 + 16n, 10 + 20n (02 §5)
+
+old-head : (n : ℕ) → startsOf old n ≡ 8 ∷ (8 + 4 * n) ∷ (8 + 16 * n) ∷ []
+unfolding starts
+old-head n = let z : 8 + 0 * n ≡ 8 = omega arith in rw z
+
+new-head : (n : ℕ) → startsOf new n ≡ 10 ∷ (10 + 4 * n) ∷ (10 + 16 * n) ∷ (10 + 20 * n) ∷ []
+unfolding starts
+new-head n = let z : 10 + 0 * n ≡ 10 = omega arith in rw z
+
+old-length : (n : ℕ) → pageLength old n ≡ 8 + 16 * n
+unfolding rowLong
+old-length n = refl
+
+new-length : (n : ℕ) → pageLength new n ≡ 10 + 20 * n
+unfolding rowLong
+new-length n = refl
+
+-- The page of P8's row, which is an old one now; the same as a new page, at 10:00 and with no known time
+
 abbrev row : ℕ → ℕ → ℕ → Row
 row life reading time = record { key = 0x01021204; life = life; reading = reading; time = time }
 
+abbrev p8 : List ℕ
+p8 =
+    0x00 ∷ 0x01 ∷ 0x00 ∷ 0x08 ∷ 0x00 ∷ 0x0C ∷ 0x00 ∷ 0x18 ∷ 0x01 ∷ 0x02 ∷ 0x12 ∷ 0x04
+    ∷ 0x00 ∷ 0x00 ∷ 0x00 ∷ 0x00 ∷ 0x00 ∷ 0x00 ∷ 0x00 ∷ 0xB9 ∷ 0x00 ∷ 0x00 ∷ 0x00 ∷ 0x1E ∷ []
+
+abbrev p8-new : List ℕ → List ℕ
+p8-new time =
+    0x00 ∷ 0x01 ∷ 0x00 ∷ 0x0A ∷ 0x00 ∷ 0x0E ∷ 0x00 ∷ 0x1A ∷ 0x00 ∷ 0x1E ∷ 0x01 ∷ 0x02 ∷ 0x12 ∷ 0x04
+    ∷ 0x00 ∷ 0x00 ∷ 0x00 ∷ 0x00 ∷ 0x00 ∷ 0x00 ∷ 0x00 ∷ 0xB9 ∷ 0x00 ∷ 0x00 ∷ 0x00 ∷ 0x1E ∷ time
+
+abbrev unknown : List ℕ
+unknown = 0xFF ∷ 0xFF ∷ 0xFF ∷ 0xFF ∷ []
+
+abbrev ten : List ℕ
+ten = 0x00 ∷ 0x46 ∷ 0x50 ∷ 0x00 ∷ []
+
+p8-stored : pageOf old (row 185 30 noTime ∷ []) ≡ p8
+unfolding table tables starts twos octets
+p8-stored = refl
+
+new-stored : pageOf new (row 185 30 (10 * 3600 * 128) ∷ []) ≡ p8-new ten
+unfolding table tables starts twos octets
+new-stored = refl
+
+unknown-stored : pageOf new (row 185 30 noTime ∷ []) ≡ p8-new unknown
+unfolding table tables starts twos octets
+unknown-stored = refl
+
+-- an old page has no known time; a new one its own
+p8-rows : rowsIn old p8 ≡ row 185 30 noTime ∷ []
+unfolding rowFrom number upto
+p8-rows = refl
+
+new-rows : rowsIn new (p8-new ten) ≡ row 185 30 (10 * 3600 * 128) ∷ []
+unfolding rowFrom number upto
+new-rows = refl
+
+-- an old page is no new one, nor the reverse
+not-new : headKeeps new p8 ≡ false
+unfolding stand starts number rowLong
+not-new = refl
+
+not-old : headKeeps old (p8-new ten) ≡ false
+unfolding stand starts number rowLong
+not-old = refl
+
+-- A midnight between two pages
+
+-- the counter of P8, and a report with a count since midnight, so many hours after it
 abbrev report : ℕ → ℕ → Report
 report hours count = counts (record { key = 0x01021204; time = hours * 3600 * 128; reference = 0; count = count } ∷ [])
 
 -- 100 at 20:00, stored as a page
 abbrev page : List ℕ
-page = pageOf (after addUp [] (report 20 100 ∷ []))
+page = pageOf new (after addUp [] (report 20 100 ∷ []))
 
--- loaded, it has no known time
-loaded : rowsIn page ≡ row 100 100 noTime ∷ []
-unfolding addUp addEntry addAll rowOf names newKeys passes postRows after table octets number upto
+-- loaded, it has its time
+loaded : rowsIn new page ≡ row 100 100 (20 * 3600 * 128) ∷ []
+unfolding addUp addEntry addAll rowOf names newKeys passes postRows after table tables starts twos octets rowFrom number upto
 loaded = refl
 
--- so 150 at 12:00 adds the difference, and its time is known from then on
-then-earlier : after addUp (rowsIn page) (report 12 150 ∷ []) ≡ row 150 150 (12 * 3600 * 128) ∷ []
-unfolding addUp addEntry addAll rowOf names newKeys passes postRows after table octets number upto
+-- so 150 at 12:00 is after a midnight, and adds all of it
+then-earlier : after addUp (rowsIn new page) (report 12 150 ∷ []) ≡ row 250 150 (12 * 3600 * 128) ∷ []
+unfolding addUp addEntry addAll rowOf names newKeys passes postRows after table tables starts twos octets rowFrom number upto
 then-earlier = refl
-
--- and 160 at 8:00 after that is a midnight
-then-known : after addUp (rowsIn page) (report 12 150 ∷ report 8 160 ∷ []) ≡ row 310 160 (8 * 3600 * 128) ∷ []
-unfolding addUp addEntry addAll rowOf names newKeys passes postRows after table octets number upto
-then-known = refl

@@ -1,0 +1,69 @@
+-- A page turned into the other form and back (02 §5). Assumes nothing.
+use mathlib.Core.Path.{_≡_, refl, sym, ap, _∙_, subst}
+use mathlib.Core.Bool.{Bool, true, false}
+use mathlib.Core.List.{List, [], _∷_, map}
+use mathlib.Core.Logic.{_↔_}
+use Prim.Native.Nat.{ℕ}
+use Rattle.octets.specs.Choice.{pick}
+use Rattle.octets.specs.Numbers.{Octets}
+use Rattle.octets.specs.Outcomes.{Outcome, no, puts}
+use Rattle.octets.specs.Refusals.{rulesBroken}
+use Rattle.octets.proofs.Cases.{both}
+use Rattle.octets.proofs.Outcomes.{puts-same, not-puts}
+use Rattle.rows.specs.Rows.{Row, noTime}
+use Rattle.ledger.specs.Ledgers.{answer, cellsOf, keepsRules}
+use Rattle.ledger.specs.Steps.{Ruled}
+use Rattle.ledger.specs.declared.Answer.{Answer}
+use Rattle.ledger.proofs.CellLaws.{rows-back}
+use Rattle.ledger.proofs.RuleLaws.{kept-rules}
+use Rattle.pages.specs.Pages.{old, new, tablesOf, pageOf, rowsIn, cellsIn, headKeeps, pageKeeps, loadOf, storeOf, turnOf, untimed, NoTimes}
+use Rattle.pages.specs.declared.forms.Form.{Form}
+use Rattle.pages.specs.declared.forms.Table.{Table}
+use Rattle.pages.proofs.PageLaws.{shown}
+use Rattle.pages.proofs.PageTheorems.{page-kept, page-same, page-ruled, new-apart, untimed-ruled, all-old, all-new}
+
+-- octets that were turned are a page, and what they were turned into
+pub turned : (from to : List Table) (s p : List ℕ) → turnOf from to s ≡ puts p → (pageKeeps from s ≡ true) × (p ≡ pageOf to (rowsIn from s))
+unfolding turnOf
+turned from to s p = go (pageKeeps from s) refl
+  where
+    go : (b : Bool) → pageKeeps from s ≡ b → pick b (puts (pageOf to (rowsIn from s))) (no rulesBroken) ≡ puts p
+        → (pageKeeps from s ≡ true) × (p ≡ pageOf to (rowsIn from s))
+    go true t e = (t, sym (puts-same e))
+    go false f e = absurd (not-puts e)
+
+-- a page that was turned, turned back, is the page of what the other form showed of its rows
+module _ (from to : Form) (s : List ℕ) (o : Octets s) (p : List ℕ) where
+  back : turnOf (tablesOf from) (tablesOf to) s ≡ puts p
+      → turnOf (tablesOf to) (tablesOf from) p ≡ puts (pageOf (tablesOf from) (map (shown (tablesOf to)) (rowsIn (tablesOf from) s)))
+  unfolding turnOf
+  back e =
+      let w = turned (tablesOf from) (tablesOf to) s p e in
+      let k = page-kept to (rowsIn (tablesOf from) s) (page-ruled from s o (w .0)) in
+      rw (w .1, k .0, k .1)
+
+-- Old to new to old gives the same octets.
+pub old-new-old : (s : List ℕ) → Octets s → (p : List ℕ) → turnOf old new s ≡ puts p → turnOf new old p ≡ puts s
+old-new-old s o p e =
+    let k = both (headKeeps old s) (keepsRules (cellsIn old s)) (turned old new s p e .0) in
+    back Form.Old Form.New s o p e ∙ ap (λ rows. puts (pageOf old rows)) (all-new (rowsIn old s)) ∙ ap puts (page-same Form.Old s o (k .0))
+
+-- rows that are as they were without their times have none that is known, and the reverse
+none-known : (rows : List Row) → map untimed rows ≡ rows → NoTimes rows
+none-known [] e = tt
+none-known (r ∷ rows) e = (let h : untimed r ≡ r = cc in sym (ap (λ (x : Row). x .time) h), none-known rows cc)
+
+pub none-untimed : (rows : List Row) → NoTimes rows → map untimed rows ≡ rows
+none-untimed [] n = refl
+none-untimed (r ∷ rows) n = λ i. record { key = r .key; life = r .life; reading = r .reading; time = sym (n .0) i } ∷ none-untimed rows (n .1) i
+
+-- New to old to new gives the octets exactly where every time was unknown.
+pub new-old-new : (s : List ℕ) → Octets s → (p : List ℕ) → turnOf new old s ≡ puts p → (turnOf old new p ≡ puts s) ↔ NoTimes (rowsIn new s)
+new-old-new s o p e =
+    let w = turned new old s p e in
+    let rows = rowsIn new s in
+    let k = both (headKeeps new s) (keepsRules (cellsIn new s)) (w .0) in
+    let same = page-same Form.New s o (k .0) in
+    let b = back Form.New Form.Old s o p e ∙ ap (λ x. puts (pageOf new x)) (all-old rows) in
+    (λ h. none-known rows (new-apart (map untimed rows) rows (untimed-ruled rows (page-ruled Form.New s o (w .0))) (page-ruled Form.New s o (w .0)) (puts-same (sym b ∙ h) ∙ sym same)),
+    λ n. b ∙ ap (λ x. puts (pageOf new x)) (none-untimed rows n) ∙ ap puts same)
