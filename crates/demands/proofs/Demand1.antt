@@ -1,8 +1,8 @@
 -- Demand 1: a refusal leaves the output and the ledger as they stood. That an operation answers at all, for every input, is its contract: none has a
 -- `requires`. That what breaks a rule gets the number of its first fault is in the files Given*.antt. Assumes nothing.
 use mathlib.Core.Bool.{true}
-use mathlib.Core.List.{List, map}
-use mathlib.Core.Path.{_≡_, ap, sym, _∙_, subst}
+use mathlib.Core.List.{List}
+use mathlib.Core.Path.{_≡_, ap, sym, _∙_}
 use Prim.Native.Nat.{ℕ, _≤_, _<_}
 use native.Mathlib.Omega.{arith}
 use borrow.Author.Tests.{lt-ltb, le-ltb}
@@ -14,17 +14,19 @@ use Rattle.octets.specs.Refusals.{rulesBroken, outputTooShort}
 use Rattle.blocks.specs.declared.record.Record.{Record}
 use Rattle.writing.specs.Written.{writeOf, rewriteOf}
 use Rattle.octets.specs.declared.output.Written.{Written}
-use Rattle.ledger.specs.Ledgers.{answer, rowsOf, changed, keepsRules, Held}
-use Rattle.pages.specs.Pages.{pageOf, untimed, NoTimes, storeOf, loadOf}
+use Rattle.ledger.specs.Ledgers.{answer, rowsOf, keepsRules, Held}
+use Rattle.pages.specs.Pages.{new, pageOf, storeOf, loadOf, turnOf}
+use Rattle.pages.specs.declared.forms.Form.{Form}
+use Rattle.pages.specs.declared.forms.Table.{Table}
 use Rattle.ledger.specs.declared.Answer.{Answer}
 use Rattle.ledger.specs.declared.Ledger.{Ledger}
 use Rattle.ledger.proofs.CellLaws.{ledger-same}
-use Rattle.pages.proofs.PageTheorems.{store-load, load-store, loaded-untimed, untimed-load}
+use Rattle.pages.proofs.PageTheorems.{store-load, load-store}
 use Rattle.ledger.proofs.PostTheorems.{posted-same}
 use Rattle.doors.specs.Cell.{feedCellCount}
 use Rattle.doors.specs.Feeds.{isOver, feedRun, pageFed, feedCells}
-use Rattle.demands.specs.Contracts.{Writes, Rewrites, Posts, Loads, Stores, WearFeeds}
-use Rattle.octets.proofs.Outcomes.{puts-same, refused-same, written-laid}
+use Rattle.demands.specs.Contracts.{Writes, Rewrites, Posts, Loads, Stores, Turns, WearFeeds}
+use Rattle.octets.proofs.Outcomes.{puts-same, not-puts, refused-same, written-laid}
 use Rattle.octets.proofs.Cases.{test}
 
 -- A refusal leaves the output as it stood.
@@ -35,7 +37,10 @@ pub refused-rewriting : (s l out : List ℕ) (n : ℕ) → Rewrites s l out (Wri
 refused-rewriting s l out n h = refused-same (rewriteOf s) l out n (h .0) (h .1)
 
 pub refused-storing : (l : Ledger) (o out : List ℕ) (n : ℕ) → Stores l o out (Written.Refused n) → out ≡ o
-refused-storing l o out n h = refused-same (storeOf (l .cells)) o out n (h .0) (h .1)
+refused-storing l o out n h = refused-same (storeOf new (l .cells)) o out n (h .0) (h .1)
+
+pub refused-turning : (from to : List Table) (s o out : List ℕ) (n : ℕ) → Turns from to s o out (Written.Refused n) → out ≡ o
+refused-turning from to s o out n h = refused-same (turnOf from to s) o out n (h .0) (h .1)
 
 -- A refused post gives the ledger back unchanged, whichever entry refused it.
 pub refused-posting : (l : Ledger) → Held (l .cells) → (s : List ℕ) (k n : ℕ) (m : Ledger) → Posts l s k (answer n (m .cells)) → (n ≡ 0 → ⊥)
@@ -56,36 +61,24 @@ module _ (page s : List ℕ) (more : ℕ) (l cells out after : List ℕ) (r : �
   pub few-feeding : length cells < feedCellCount → (r ≡ outputTooShort) × (out ≡ l) × (after ≡ cells)
   few-feeding few = rw (lt-ltb (length cells) feedCellCount few) at h
 
-store-page : (l : Ledger) (xs : List ℕ) → storeOf (l .cells) ≡ puts xs → (keepsRules (l .cells) ≡ true) × (xs ≡ pageOf (rowsOf (l .cells)))
+store-page : (l : Ledger) (xs : List ℕ) → storeOf new (l .cells) ≡ puts xs → (keepsRules (l .cells) ≡ true) × (xs ≡ pageOf new (rowsOf (l .cells)))
 unfolding storeOf
 store-page l xs h =
     test (keepsRules (l .cells)) (λ t. (t, puts-same (sym h ∙ rw t)))
-    (λ f. let z : no rulesBroken ≡ puts xs = rw f at h in let e : _≡_ {A = ℕ} 0 1 = cc in absurd (omega arith))
+    (λ f. absurd (not-puts {n = rulesBroken} {xs = xs} (rw f at h)))
 
--- Load after store gives the ledger back without its times: of the n octets that were stored,
+-- Load after store gives the ledger back, with its times: of the n octets that were stored;
 pub stored-loaded : (l : Ledger) → Held (l .cells) → (o out : List ℕ) (n : ℕ) → Stores l o out (Written.Octets n)
-    → (r : Answer) → Loads (take n out) r → r ≡ answer 0 (changed (map untimed) (l .cells))
-stored-loaded l held o out n h r e =
-    let w = written-laid (storeOf (l .cells)) o out n (h .0) (h .1) in
-    let p = store-page l (w .xs) (w .is) in
-    e ∙ ap loadOf (ap (take n) (w .same) ∙ take-at (w .xs) (drop n o) n (sym (w .long)) ∙ p .1) ∙ store-load (l .cells) held (p .0)
-
--- the whole ledger where it has no known time,
-pub stored-whole : (l : Ledger) → Held (l .cells) → NoTimes (rowsOf (l .cells)) → (o out : List ℕ) (n : ℕ) → Stores l o out (Written.Octets n)
     → (r : Answer) → Loads (take n out) r → r ≡ answer 0 (l .cells)
-stored-whole l held none-known o out n h r e =
-    let w = written-laid (storeOf (l .cells)) o out n (h .0) (h .1) in
+stored-loaded l held o out n h r e =
+    let w = written-laid (storeOf new (l .cells)) o out n (h .0) (h .1) in
     let p = store-page l (w .xs) (w .is) in
-    stored-loaded l held o out n h r e ∙ sym (store-load (l .cells) held (p .0)) ∙ untimed-load (l .cells) held (p .0) none-known
-
--- as no ledger that is loaded has;
-pub loaded-none-known : (s : List ℕ) (r : Answer) → Loads s r → NoTimes (rowsOf (r .ledger .cells))
-loaded-none-known s r h = subst (λ (a : Answer). NoTimes (rowsOf (a .ledger .cells))) (sym h) (loaded-untimed s)
+    e ∙ ap (loadOf new) (ap (take n) (w .same) ∙ take-at (w .xs) (drop n o) n (sym (w .long)) ∙ p .1) ∙ store-load (l .cells) held (p .0)
 
 -- and store after load the octets.
 pub loaded-stored : (s : List ℕ) → Octets s → (l : Ledger) → Loads s (answer 0 (l .cells))
     → (o out : List ℕ) (n : ℕ) → Stores l o out (Written.Octets n) → take n out ≡ s
 loaded-stored s okay l h o out n e =
-    let w = written-laid (storeOf (l .cells)) o out n (e .0) (e .1) in
-    let same : w .xs ≡ s = puts-same (sym (w .is) ∙ load-store s okay (l .cells) (sym h)) in
+    let w = written-laid (storeOf new (l .cells)) o out n (e .0) (e .1) in
+    let same : w .xs ≡ s = puts-same (sym (w .is) ∙ load-store Form.New s okay (l .cells) (sym h)) in
     ap (take n) (w .same) ∙ take-at (w .xs) (drop n o) n (sym (w .long)) ∙ same

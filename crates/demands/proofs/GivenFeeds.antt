@@ -13,7 +13,8 @@ use Rattle.octets.specs.Refusals.{rulesBroken}
 use Rattle.octets.proofs.Outcomes.{no-same, puts-same, not-puts}
 use Rattle.rows.specs.Rows.{Row}
 use Rattle.ledger.specs.Ledgers.{cellsOf}
-use Rattle.pages.specs.Pages.{loadOf, storeOf}
+use Rattle.pages.specs.Pages.{new, loadOf, storeOf}
+use Rattle.pages.specs.declared.forms.Form.{Form}
 use Rattle.ledger.specs.Steps.{Kept}
 use Rattle.ledger.specs.declared.Answer.{Answer}
 use Rattle.ledger.proofs.CellLaws.{rows-back}
@@ -30,7 +31,7 @@ use Rattle.demands.proofs.GivenOutputs.{within-puts, number-given, numb
 use Rattle.demands.proofs.GivenPages.{page-or-not, load-page, load-none}
 
 -- where there is a page, the ledger that the run leaves is stored
-pub fed-loaded : (page s : List ℕ) (over : Bool) → loadOf page .refusal ≡ 0 → pageFed page s over ≡ storeOf (cellsOf (feedRun page s over .state .rows))
+pub fed-loaded : (page s : List ℕ) (over : Bool) → loadOf new page .refusal ≡ 0 → pageFed page s over ≡ storeOf new (cellsOf (feedRun page s over .state .rows))
 unfolding pageFed
 fed-loaded page s over good = rw (eq-eqb _ 0 good)
 
@@ -40,27 +41,27 @@ module _ (page s : List ℕ) (okay : Octets page) (are : Octets s) (more : ℕ) 
 
   -- the ledger that the run leaves keeps the rules
   pub fed-kept : Kept (cellsOf (feedRun page s (isOver more) .state .rows))
-  fed-kept = let k = loaded-good page okay in kept-run (suc (length s)) s are (isOver more) _ (k .good, k .narrow)
+  fed-kept = let k = loaded-good Form.New page okay in kept-run (suc (length s)) s are (isOver more) _ (k .good, k .narrow)
 
-  fed-stored : Page page → fed ≡ puts (fedPage page s more)
+  fed-stored : Page new page → fed ≡ puts (fedPage page s more)
   unfolding storeOf
   fed-stored p =
       let rows : List Row = feedRun page s (isOver more) .state .rows in
-      fed-loaded page s (isOver more) (ap (λ (a : Answer). a .refusal) (load-page page p)) ∙ rw (rules-kept (cellsOf rows) fed-kept, rows-back rows)
+      fed-loaded page s (isOver more) (ap (λ (a : Answer). a .refusal) (load-page new page p)) ∙ rw (rules-kept (cellsOf rows) fed-kept, rows-back rows)
 
-  fed-none : NoPage page → fed ≡ no rulesBroken
+  fed-none : NoPage new page → fed ≡ no rulesBroken
   unfolding pageFed
-  fed-none w = let bad : loadOf page .refusal ≡ rulesBroken = ap (λ (a : Answer). a .refusal) (load-none page w) in rw bad
+  fed-none w = let bad : loadOf new page .refusal ≡ rulesBroken = ap (λ (a : Answer). a .refusal) (load-none new page w) in rw bad
 
-  fed-no : (n : ℕ) → (fed ≡ no n) ↔ (NoPage page × (n ≡ rulesBroken))
+  fed-no : (n : ℕ) → (fed ≡ no n) ↔ (NoPage new page × (n ≡ rulesBroken))
   fed-no n = (
-    λ e. page-or-not page (λ p. absurd (not-puts (sym e ∙ fed-stored p))) (λ w. (w, no-same (sym e ∙ fed-none w))),
+    λ e. page-or-not new page (λ p. absurd (not-puts (sym e ∙ fed-stored p))) (λ w. (w, no-same (sym e ∙ fed-none w))),
     λ w. fed-none (w .0) ∙ ap no (sym (w .1)),
   )
 
-  fed-puts : (xs : List ℕ) → (fed ≡ puts xs) ↔ (Page page × (fedPage page s more ≡ xs))
+  fed-puts : (xs : List ℕ) → (fed ≡ puts xs) ↔ (Page new page × (fedPage page s more ≡ xs))
   fed-puts xs = (
-    λ e. page-or-not page (λ p. (p, puts-same (sym (fed-stored p) ∙ e))) (λ w. absurd (not-puts (sym (fed-none w) ∙ e))),
+    λ e. page-or-not new page (λ p. (p, puts-same (sym (fed-stored p) ∙ e))) (λ w. absurd (not-puts (sym (fed-none w) ∙ e))),
     λ w. fed-stored (w .0) ∙ ap puts (w .1),
   )
 
@@ -73,7 +74,7 @@ module _ (page s : List ℕ) (okay : Octets page) (are : Octets s) (more : ℕ) 
     feed-given = number-given fed _ _ (fedPage page s more) fed-no fed-puts l r answered
 
     -- "0: accepted": else.
-    pub feed-given-0 : (r ≡ 0) ↔ (Page page × (length (fedPage page s more) ≤ length l))
+    pub feed-given-0 : (r ≡ 0) ↔ (Page new page × (length (fedPage page s more) ≤ length l))
     feed-given-0 = number-written fed _ _ (fedPage page s more) fed-no fed-puts l r answered (λ w. let z : _≡_ {A = ℕ} 0 16 = w .1 in omega arith)
 
     -- Then that page goes out, and the cells tell of the run.

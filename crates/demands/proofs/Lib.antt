@@ -14,5 +14,6 @@ pub mod GivenOutputs
 pub mod GivenItems
 pub mod GivenWriting
 pub mod GivenPages
+pub mod Turned
 pub mod GivenFeeds
 pub mod Pieces

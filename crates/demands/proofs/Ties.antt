@@ -13,6 +13,8 @@ use Rattle.ledger.proofs.post.post as post
 use Rattle.ledger.proofs.lent.post_lent as post-lent
 use Rattle.pages.proofs.load as load
 use Rattle.pages.proofs.store as store
+use Rattle.pages.proofs.to_new as to-new
+use Rattle.pages.proofs.to_old as to-old
 use Rattle.feed.proofs.block.next_block as next-block
 use Rattle.doors.proofs.wear_version as wear-version
 use Rattle.doors.proofs.wear_read as wear-read
@@ -20,11 +22,14 @@ use Rattle.doors.proofs.wear_step as wear-step
 use Rattle.doors.proofs.wear_entry as wear-entry
 use Rattle.doors.proofs.wear_write as wear-write
 use Rattle.doors.proofs.wear_rewrite as wear-rewrite
+use Rattle.doors.proofs.wear_page_to_new as wear-page-to-new
+use Rattle.doors.proofs.wear_page_to_old as wear-page-to-old
 use Rattle.doors.proofs.wear_post as wear-post
 use Rattle.doors.proofs.wear_feed as wear-feed
+use Rattle.pages.specs.Pages.{old, new}
 use Rattle.demands.specs.Claims.{MeetsJust}
-use Rattle.demands.specs.Contracts.{Reads, First, Steps, Entries, Writes, Rewrites, Fresh, Checks, Posts, LentPosts, Loads, Stores, Begins}
-use Rattle.demands.specs.Contracts.{WearVersions, WearReads, WearSteps, WearEntries, WearWrites, WearRewrites, WearPosts, WearFeeds}
+use Rattle.demands.specs.Contracts.{Reads, First, Steps, Entries, Writes, Rewrites, Fresh, Checks, Posts, LentPosts, Loads, Stores, Turns, Begins}
+use Rattle.demands.specs.Contracts.{WearVersions, WearReads, WearSteps, WearEntries, WearWrites, WearRewrites, WearTurns, WearPosts, WearFeeds}
 
 pub reading : MeetsJust read.ended read.Symbol.routine (λ _ (s, _) r _. Reads (now s) r)
 reading M = read.Met.met
@@ -63,6 +68,12 @@ loading M = load.Met.met
 pub storing : MeetsJust store.ended store.Symbol.routine (λ _ (l, (o, _)) r (_, (out, _)). Stores l (now o) (now out) r)
 storing M = store.Met.met
 
+pub turning-new : MeetsJust to-new.ended to-new.Symbol.routine (λ _ (s, (o, _)) r (_, (out, _)). Turns old new (now s) (now o) (now out) r)
+turning-new M = to-new.Met.met
+
+pub turning-old : MeetsJust to-old.ended to-old.Symbol.routine (λ _ (s, (o, _)) r (_, (out, _)). Turns new old (now s) (now o) (now out) r)
+turning-old M = to-old.Met.met
+
 pub beginning : MeetsJust next-block.ended next-block.Symbol.routine (λ _ (s, (over, _)) r _. Begins (now s) over r)
 beginning M = next-block.Met.met
 
@@ -88,6 +99,14 @@ door-write M = wear-write.Met.met
 pub door-rewrite : MeetsJust wear-rewrite.ended wear-rewrite.Symbol.routine
     (λ _ (s, (l, (size, _))) r (_, (out, (after, _))). WearRewrites (now s) (now l) (now size) (now out) (now after) r)
 door-rewrite M = wear-rewrite.Met.met
+
+pub door-to-new : MeetsJust wear-page-to-new.ended wear-page-to-new.Symbol.routine
+    (λ _ (page, (l, (size, _))) r (_, (out, (after, _))). WearTurns old new (now page) (now l) (now size) (now out) (now after) r)
+door-to-new M = wear-page-to-new.Met.met
+
+pub door-to-old : MeetsJust wear-page-to-old.ended wear-page-to-old.Symbol.routine
+    (λ _ (page, (l, (size, _))) r (_, (out, (after, _))). WearTurns new old (now page) (now l) (now size) (now out) (now after) r)
+door-to-old M = wear-page-to-old.Met.met
 
 pub door-post : MeetsJust wear-post.ended wear-post.Symbol.routine
     (λ _ (page, (s, (k, (l, (size, _))))) r (_, (_, (_, (out, (after, _))))).

@@ -15,8 +15,9 @@ use Rattle.ledger.specs.declared.Answer.{Answer}
 use Rattle.ledger.specs.declared.Ledger.{Ledger}
 use Rattle.ledger.proofs.CellLaws.{ledger-same}
 use Rattle.feed.specs.declared.block.Next.{Next}
-use Rattle.demands.specs.Contracts.{Reads, First, Steps, Entries, Writes, Rewrites, Fresh, Checks, Posts, LentPosts, Loads, Stores, Begins}
-use Rattle.demands.specs.Contracts.{WearVersions, WearReads, WearSteps, WearEntries, WearWrites, WearRewrites, WearPosts, WearFeeds}
+use Rattle.pages.specs.declared.forms.Table.{Table}
+use Rattle.demands.specs.Contracts.{Reads, First, Steps, Entries, Writes, Rewrites, Fresh, Checks, Posts, LentPosts, Loads, Stores, Turns, Begins}
+use Rattle.demands.specs.Contracts.{WearVersions, WearReads, WearSteps, WearEntries, WearWrites, WearRewrites, WearTurns, WearPosts, WearFeeds}
 
 pub one-reading : (s : List ℕ) (r q : Reading) → Reads s r → Reads s q → r ≡ q
 one-reading s r q h k = only (h .0) (k .0)
@@ -56,6 +57,10 @@ one-loading s r q h k = only h k
 pub one-storing : (l : Ledger) (o out out' : List ℕ) (r q : Written) → Stores l o out r → Stores l o out' q → (out ≡ out') × (r ≡ q)
 one-storing l o out out' r q h k = only-both (h .0, h .1) (k .0, k .1)
 
+pub one-turning : (from to : List Table) (s o out out' : List ℕ) (r q : Written) → Turns from to s o out r → Turns from to s o out' q
+    → (out ≡ out') × (r ≡ q)
+one-turning from to s o out out' r q h k = only-both (h .0, h .1) (k .0, k .1)
+
 pub one-beginning : (s : List ℕ) (over : Bool) (r q : Next) → Begins s over r → Begins s over q → r ≡ q
 one-beginning s over r q h k = only (h .0) (k .0)
 
@@ -85,6 +90,10 @@ one-wear-writing cells s l size out out' after after' r q h k = only-three h k
 pub one-wear-rewriting : (s l size out out' after after' : List ℕ) (r q : ℕ) → WearRewrites s l size out after r
     → WearRewrites s l size out' after' q → (r ≡ q) × (out ≡ out') × (after ≡ after')
 one-wear-rewriting s l size out out' after after' r q h k = only-three h k
+
+pub one-wear-turning : (from to : List Table) (page l size out out' after after' : List ℕ) (r q : ℕ) → WearTurns from to page l size out after r
+    → WearTurns from to page l size out' after' q → (r ≡ q) × (out ≡ out') × (after ≡ after')
+one-wear-turning from to page l size out out' after after' r q h k = only-three h k
 
 pub one-wear-posting : (page s : List ℕ) (n : ℕ) (l size out out' after after' : List ℕ) (r q : ℕ) → WearPosts page s n l size out after r
     → WearPosts page s n l size out' after' q → (r ≡ q) × (out ≡ out') × (after ≡ after')

@@ -13,7 +13,8 @@ use Rattle.blocks.specs.declared.cursor.Step.{Step}
 use Rattle.blocks.specs.declared.cursor.Found.{Found}
 use Rattle.octets.specs.Outcomes.{Outcome, within, answerOf, outputOf, listedWritten, outcomeListed}
 use Rattle.ledger.specs.Ledgers.{answer, cellsOf, rulesRefusal}
-use Rattle.pages.specs.Pages.{loadOf, storeOf}
+use Rattle.pages.specs.Pages.{new, loadOf, storeOf, turnOf}
+use Rattle.pages.specs.declared.forms.Table.{Table}
 use Rattle.ledger.specs.Posts.{postOf}
 use Rattle.ledger.specs.declared.Answer.{Answer}
 use Rattle.ledger.specs.declared.Ledger.{Ledger}
@@ -72,11 +73,15 @@ LentPosts l s k after r = answer r (after .cells) ≡ postOf (l .cells) s k
 
 -- pages::load: the page, the answer with the ledger
 abbrev pub Loads : List ℕ → Answer → Type 0
-Loads s r = r ≡ loadOf s
+Loads s r = r ≡ loadOf new s
 
 -- pages::store: the ledger, the output before and after, the answer
 abbrev pub Stores : Ledger → List ℕ → List ℕ → Written → Type 0
-Stores l o out r = Puts (storeOf (l .cells)) o out r
+Stores l o out r = Puts (storeOf new (l .cells)) o out r
+
+-- pages::to_new and pages::to_old: the tables of the page and of the one that it is turned into, the page, the output before and after, the answer
+abbrev pub Turns : List Table → List Table → List ℕ → List ℕ → List ℕ → Written → Type 0
+Turns from to s o out r = Puts (turnOf from to s) o out r
 
 -- feed::block::next_block: the octets at hand, whether the input is over, the answer
 abbrev pub Begins : List ℕ → Bool → Next → Type 0
@@ -115,6 +120,11 @@ WearWrites cells s l size out after r = PutsOut (isFew cellCount cells || isFew 
 -- doors::wear_rewrite: the octets, the output and the length's cell before, the two after, the refusal
 abbrev pub WearRewrites : List ℕ → List ℕ → List ℕ → List ℕ → List ℕ → ℕ → Type 0
 WearRewrites s l size out after r = PutsOut (isFew 1 size) (rewriteOf s) l size out after r
+
+-- doors::wear_page_to_new and doors::wear_page_to_old: the tables of the page and of the one that it is turned into, the page, the output and the
+-- length's cell before, the two after, the refusal
+abbrev pub WearTurns : List Table → List Table → List ℕ → List ℕ → List ℕ → List ℕ → List ℕ → ℕ → Type 0
+WearTurns from to page l size out after r = PutsOut (isFew 1 size) (turnOf from to page) l size out after r
 
 -- doors::wear_post: the page, the octets, the record number, the output and the length's cell before, the two after, the refusal
 abbrev pub WearPosts : List ℕ → List ℕ → ℕ → List ℕ → List ℕ → List ℕ → List ℕ → ℕ → Type 0

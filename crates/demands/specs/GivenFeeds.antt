@@ -4,14 +4,14 @@ use mathlib.Core.List.{List}
 use mathlib.Core.Path.{_≡_}
 use Prim.Native.Nat.{ℕ}
 use Rattle.octets.specs.Refusals.{rulesBroken}
-use Rattle.pages.specs.Pages.{pageOf}
+use Rattle.pages.specs.Pages.{new, pageOf}
 use Rattle.doors.specs.Feeds.{isOver, feedRun}
 use Rattle.demands.specs.Given.{OutputFault}
 use Rattle.demands.specs.GivenPages.{Page, NoPage}
 
 -- the page that is to go out: that of the rows after the run
 abbrev pub fedPage : List ℕ → List ℕ → ℕ → List ℕ
-fedPage page s more = pageOf (feedRun page s (isOver more) .state .rows)
+fedPage page s more = pageOf new (feedRun page s (isOver more) .state .rows)
 
 abbrev pub FeedFault : List ℕ → List ℕ → ℕ → List ℕ → ℕ → Type 0
-FeedFault page s more l n = OutputFault (λ m. NoPage page × (m ≡ rulesBroken)) (Page page) (fedPage page s more) l n
+FeedFault page s more l n = OutputFault (λ m. NoPage new page × (m ≡ rulesBroken)) (Page new page) (fedPage page s more) l n

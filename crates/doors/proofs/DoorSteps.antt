@@ -13,7 +13,8 @@ use Rattle.octets.proofs.Outcomes.{Says}
 use Rattle.blocks.specs.declared.record.Record.{Record}
 use Rattle.writing.specs.Written.{writeOf}
 use Rattle.ledger.specs.Ledgers.{rowsOf, cellsOf}
-use Rattle.pages.specs.Pages.{loadOf, storeOf}
+use Rattle.pages.specs.Pages.{new, loadOf, storeOf}
+use Rattle.pages.specs.declared.forms.Form.{Form}
 use Rattle.ledger.specs.Posts.{postOf}
 use Rattle.ledger.specs.Steps.{Kept}
 use Rattle.ledger.specs.declared.Answer.{Answer}
@@ -73,7 +74,7 @@ module _ (cs s : List ℕ) {n : ℕ} (judged : n ≡ cellsRefusal cs) where
   cells-taken h e = rw (← judged, eq-eqb n 0 h, e)
 
 -- the page is refused, or the posting, or the ledger is stored
-module _ (page s : List ℕ) (k : ℕ) {a : Answer} (loaded : a ≡ loadOf page) where
+module _ (page s : List ℕ) (k : ℕ) {a : Answer} (loaded : a ≡ loadOf new page) where
   pub load-refused : (a .refusal ≡ 0 → ⊥) → pagePosted page s k ≡ no (a .refusal)
   unfolding pagePosted
   load-refused h = rw (← loaded, ne-eqb (a .refusal) 0 h)
@@ -83,12 +84,12 @@ module _ (page s : List ℕ) (k : ℕ) {a : Answer} (loaded : a ≡ loadOf page)
     unfolding pagePosted
     post-refused h = rw (← loaded, eq-eqb (a .refusal) 0 good, ← posted, ne-eqb (b .refusal) 0 h)
 
-    pub post-stored : b .refusal ≡ 0 → pagePosted page s k ≡ storeOf (b .ledger .cells)
+    pub post-stored : b .refusal ≡ 0 → pagePosted page s k ≡ storeOf new (b .ledger .cells)
     unfolding pagePosted
     post-stored h = rw (← loaded, eq-eqb (a .refusal) 0 good, ← posted, eq-eqb (b .refusal) 0 h)
 
 -- a feed: the page is refused, or the ledger that the run leaves is stored
-module _ (page s : List ℕ) (over : Bool) (l : List ℕ) {a : Answer} (loaded : a ≡ loadOf page) where
+module _ (page s : List ℕ) (over : Bool) (l : List ℕ) {a : Answer} (loaded : a ≡ loadOf new page) where
   -- what became of it: the output, and what is handed on
   abbrev Becomes : List ℕ → Fed → Type 0
   Becomes out f =
@@ -96,7 +97,7 @@ module _ (page s : List ℕ) (over : Bool) (l : List ℕ) {a : Answer} (loaded :
       (out ≡ outputOf l x) × (f ≡ fedOf x (feedRun page s over))
 
   pub feed-kept : Octets page → Kept (a .ledger .cells)
-  feed-kept o = rw loaded (loaded-good page o)
+  feed-kept o = rw loaded (loaded-good Form.New page o)
 
   pub feed-refused : (a .refusal ≡ 0 → ⊥) → Becomes l (Fed.Refused (a .refusal))
   unfolding pageFed
@@ -105,7 +106,7 @@ module _ (page s : List ℕ) (over : Bool) (l : List ℕ) {a : Answer} (loaded :
   -- by what the run did, and what storing said
   pub feed-stored : a .refusal ≡ 0 → {cells : List ℕ} {d : Done}
       → (let r = runOver s over (state (rowsOf (a .ledger .cells)) zeros) in (cells ≡ cellsOf (r .state .rows)) × (d ≡ doneOf r))
-      → (w : Written) {out : List ℕ} {said : Written} → Says l out said (within (length l) (storeOf cells)) → said ≡ w → Becomes out (fedBy d w)
+      → (w : Written) {out : List ℕ} {said : Written} → Says l out said (within (length l) (storeOf new cells)) → said ≡ w → Becomes out (fedBy d w)
   unfolding pageFed
   feed-stored h ran w says told =
       rw (← loaded, eq-eqb (a .refusal) 0 h, ← ran .0, ← told, ← ran .1, ← says .1) (says .0, refl)

@@ -11,14 +11,14 @@ use Rattle.octets.specs.Refusals.{outputTooShort}
 use Rattle.blocks.specs.Walks.{ReadListed}
 use Rattle.blocks.specs.Steps.{StepListed, EntryListed}
 use Rattle.writing.specs.Written.{writeOf}
-use Rattle.pages.specs.Pages.{loadOf, storeOf}
+use Rattle.pages.specs.Pages.{new, loadOf, storeOf}
 use Rattle.ledger.specs.Posts.{postOf}
 use Rattle.ledger.specs.declared.Answer.{Answer}
 use Rattle.doors.specs.Cells.{recordCells, recordOf, cellsRefusal}
 
 -- WEAR_VERSION
 abbrev pub version : ℕ
-version = 2
+version = 3
 
 -- Fewer cells than needed: 12 before all else, and nothing changed
 
@@ -66,10 +66,10 @@ cellsWritten cs s = pick (eqb (cellsRefusal cs) 0) (writeOf s (recordOf cs)) (no
 
 -- load, post, store
 abbrev pub postStored : Answer → Outcome
-postStored a = pick (eqb (a .refusal) 0) (storeOf (a .ledger .cells)) (no (a .refusal))
+postStored a = pick (eqb (a .refusal) 0) (storeOf new (a .ledger .cells)) (no (a .refusal))
 
 abbrev pub loadPosted : List ℕ → ℕ → Answer → Outcome
 loadPosted s k a = pick (eqb (a .refusal) 0) (postStored (postOf (a .ledger .cells) s k)) (no (a .refusal))
 
 unfoldable pub pagePosted : List ℕ → List ℕ → ℕ → Outcome
-pagePosted page s k = loadPosted s k (loadOf page)
+pagePosted page s k = loadPosted s k (loadOf new page)

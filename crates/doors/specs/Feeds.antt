@@ -9,7 +9,7 @@ use Rattle.octets.specs.Outcomes.{Outcome, no, puts, answerOf}
 use Rattle.octets.specs.declared.output.Written.{Written}
 use Rattle.octets.specs.declared.output.Written.the-variants as written
 use Rattle.ledger.specs.Ledgers.{rowsOf, cellsOf}
-use Rattle.pages.specs.Pages.{loadOf, storeOf}
+use Rattle.pages.specs.Pages.{new, loadOf, storeOf}
 use Rattle.feed.specs.Runs.{state, Run, runOver, zeros, doneOf}
 use Rattle.feed.specs.declared.run.Done.{Done}
 use Rattle.feed.specs.declared.run.Ending.{Ending}
@@ -23,12 +23,12 @@ isOver more = eqb more 0
 
 -- the run over the octets from the ledger of a page, with totals from zero
 abbrev pub feedRun : List ℕ → List ℕ → Bool → Run
-feedRun page s over = runOver s over (state (rowsOf (loadOf page .ledger .cells)) zeros)
+feedRun page s over = runOver s over (state (rowsOf (loadOf new page .ledger .cells)) zeros)
 
 -- What is put out: load's refusal, or the ledger of the rows that the run leaves. Blocks that are refused are counted, not answered.
 unfoldable pub pageFed : List ℕ → List ℕ → Bool → Outcome
 pageFed page s over =
-    pick (eqb (loadOf page .refusal) 0) (storeOf (cellsOf (feedRun page s over .state .rows))) (no (loadOf page .refusal))
+    pick (eqb (loadOf new page .refusal) 0) (storeOf new (cellsOf (feedRun page s over .state .rows))) (no (loadOf new page .refusal))
 
 -- What goes into the cells
 

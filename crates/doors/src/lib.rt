@@ -10,6 +10,7 @@ ghost use Rattle.octets.specs.Outcomes.{within, answerOf, outputOf, listedWritt
 ghost use Rattle.blocks.specs.Walks.{readListed};
 ghost use Rattle.blocks.specs.Steps.{stepListed, entryListed};
 ghost use Rattle.writing.specs.Written.{rewriteOf};
+ghost use Rattle.pages.specs.Pages.{old, new, turnOf};
 ghost use Rattle.doors.specs.Cell.{cellCount, feedCellCount};
 ghost use Rattle.doors.specs.Answers.{version, isFew, refusalOr, cellsOr, readCells, stepCells, entryCells, putRefusal, putOutput, putLength, cellsWritten, pagePosted};
 ghost use Rattle.doors.specs.Feeds.{isOver, feedRun, pageFed, feedCells};
@@ -35,11 +36,13 @@ use octets::output::Written;
 use octets::refusal;
 use pages::load;
 use pages::store;
+use pages::to_new;
+use pages::to_old;
 use writing::block::rewrite;
 use writing::block::write;
 
 // WEAR_VERSION of include/wear.h.
-pub const VERSION: u32 = 2;
+pub const VERSION: u32 = 3;
 
 // The cells of a step: the offset, the next start, and the record's.
 const STEP_CELLS: usize = 2 + cell::CELLS;
@@ -192,6 +195,32 @@ pub extern "C" fn wear_rewrite(s: &[u8], out: &mut [u8], size: &mut [u64]) -> u3
         return refusal::OUTPUT_TOO_SHORT as u32;
     }
     put_out(rewrite(s, out), size)
+}
+
+// An old page as a new one with all times unknown.
+#[no_mangle]
+pub extern "C" fn wear_page_to_new(page: &[u8], out: &mut [u8], size: &mut [u64]) -> u32
+    ensures { λ r. ⌜ (r ≡ putRefusal (isFew 1 (now (size .entry))) (within (length (now (out .entry))) (turnOf old new (now (page .entry)))))
+        × (now (out .exit) ≡ putOutput (isFew 1 (now (size .entry))) (now (out .entry)) (within (length (now (out .entry))) (turnOf old new (now (page .entry)))))
+        × (now (size .exit) ≡ putLength (isFew 1 (now (size .entry))) (now (size .entry)) (within (length (now (out .entry))) (turnOf old new (now (page .entry))))) ⌝ }
+{
+    if size.len() < 1 {
+        return refusal::OUTPUT_TOO_SHORT as u32;
+    }
+    put_out(to_new(page, out), size)
+}
+
+// A new page as an old one, without the times.
+#[no_mangle]
+pub extern "C" fn wear_page_to_old(page: &[u8], out: &mut [u8], size: &mut [u64]) -> u32
+    ensures { λ r. ⌜ (r ≡ putRefusal (isFew 1 (now (size .entry))) (within (length (now (out .entry))) (turnOf new old (now (page .entry)))))
+        × (now (out .exit) ≡ putOutput (isFew 1 (now (size .entry))) (now (out .entry)) (within (length (now (out .entry))) (turnOf new old (now (page .entry)))))
+        × (now (size .exit) ≡ putLength (isFew 1 (now (size .entry))) (now (size .entry)) (within (length (now (out .entry))) (turnOf new old (now (page .entry))))) ⌝ }
+{
+    if size.len() < 1 {
+        return refusal::OUTPUT_TOO_SHORT as u32;
+    }
+    put_out(to_old(page, out), size)
 }
 
 // A record of a block posted to the ledger of a page, and the ledger stored: load's refusal, post's, store's.

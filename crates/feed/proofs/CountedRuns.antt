@@ -1,8 +1,7 @@
--- A run counts on: whatever has been counted before, it leaves the same rows at the same octet, and what it counts is added up. And whatever the rows,
--- it counts the same blocks. Assumes nothing.
+-- A run counts on: whatever has been counted before, it leaves the same rows at the same octet, and what it counts is added up. Assumes nothing.
 use mathlib.Core.Bool.{Bool, true, false}
 use mathlib.Core.List.{List, _++_}
-use mathlib.Core.Path.{_≡_, refl, sym, ap, _∙_, subst}
+use mathlib.Core.Path.{_≡_, sym, ap, _∙_, subst}
 use Prim.Native.Nat.{ℕ, zero, suc, _+_, _<_, _^_}
 use native.Mathlib.Nat.{zero-add}
 use native.Mathlib.Omega.{arith}
@@ -13,7 +12,7 @@ use Rattle.rows.specs.Rows.{Row, addUp}
 use Rattle.rows.specs.Posting.{answers, after}
 use Rattle.rows.specs.Order.{times}
 use Rattle.feed.specs.Blocks.{nextOf, reportsOf}
-use Rattle.feed.specs.Runs.{State, state, Run, left, behind, acceptedBlock, refusedBlock, goOn, runFrom, runOver, zeros}
+use Rattle.feed.specs.Runs.{state, Run, left, behind, goOn, runFrom, runOver, zeros}
 use Rattle.feed.specs.Totals.{up, refusedOne, acceptedOne}
 use Rattle.feed.specs.declared.run.Ending.{Ending}
 use Rattle.feed.specs.declared.block.Next.{Next}
@@ -132,34 +131,3 @@ counted-more s t false over' rows o e =
     let r = runOver s false (state rows zeros) in
     run-more s t over' (state rows zeros) o e
     ∙ ap (behind (r .at)) (run-counted (drop (r .at) s ++ t) over' (r .state .rows) (r .state .totals) (run-fits s false rows))
-
--- What a run counts of blocks, the octets that it uses and how it leaves off do not depend on the rows
-
-pub record Alike (a b : Run) : Type 0 where
-  pub at : a .at ≡ b .at
-  pub ending : a .ending ≡ b .ending
-  pub accepted : a .state .totals .accepted ≡ b .state .totals .accepted
-  pub refused : a .state .totals .refused ≡ b .state .totals .refused
-
--- as many blocks have been counted
-abbrev AsMany : State → State → Type 0
-AsMany x y = (x .totals .accepted ≡ y .totals .accepted) × (x .totals .refused ≡ y .totals .refused)
-
-alike-from : (n : ℕ) (s : List ℕ) (over : Bool) (x y : State) → AsMany x y → Alike (runFrom n s over x) (runFrom n s over y)
-unfolding runFrom
-alike-from zero s over x y w = record { at = refl; ending = refl; accepted = w .0; refused = w .1 }
-alike-from (suc n) s over x y w = go (λ len. alike-from n (drop len s) over) (nextOf s over)
-  where
-    further : (len : ℕ) (a b : Run) → Alike a b → Alike (behind len a) (behind len b)
-    further len a b r = record { at = ap (λ k. len + k) (r .at); ending = r .ending; accepted = r .accepted; refused = r .refused }
-
-    go : ((len : ℕ) (a b : State) → AsMany a b → Alike (runFrom n (drop len s) over a) (runFrom n (drop len s) over b)) → (z : Next)
-        → Alike (goOn s x (λ len to. runFrom n (drop len s) over to) z) (goOn s y (λ len to. runFrom n (drop len s) over to) z)
-    go ih next.Ended = record { at = refl; ending = refl; accepted = w .0; refused = w .1 }
-    go ih next.Stopped = record { at = refl; ending = refl; accepted = w .0; refused = ap (λ k. up k 1) (w .1) }
-    go ih next.More = record { at = refl; ending = refl; accepted = w .0; refused = w .1 }
-    go ih (next.Skipped len) = further len _ _ (ih len (refusedBlock x) (refusedBlock y) (w .0, ap (λ k. up k 1) (w .1)))
-    go ih (next.Accepted len) = further len _ _ (ih len (acceptedBlock x s) (acceptedBlock y s) (ap (λ k. up k 1) (w .0), w .1))
-
-pub run-alike : (s : List ℕ) (over : Bool) (rows rows' : List Row) → Alike (runOver s over (state rows zeros)) (runOver s over (state rows' zeros))
-run-alike s over rows rows' = alike-from (suc (length s)) s over (state rows zeros) (state rows' zeros) (refl, refl)

@@ -26,7 +26,7 @@ module _ (from to : List Table) (s : List ℕ) where
   turn-cases true t a e = (
     λ z. absurd (z (ap (λ (x : Answer). x .refusal) e)),
     λ z. let w = both (headKeeps from s) (keepsRules (cellsIn from s)) t in
-    rw (e, t) (store-puts to (cellsIn from s) _ refl (w .1) ∙ ap (λ rows. puts (pageOf to rows)) (rows-back (rowsIn from s))),
+        rw (e, t) (store-puts to (cellsIn from s) _ refl (w .1) ∙ ap (λ rows. puts (pageOf to rows)) (rows-back (rowsIn from s))),
   )
   turn-cases false f a e = (
     λ z. rw (f, e),

@@ -4,6 +4,7 @@ use mathlib.Core.Bool.{Bool, true, false}
 use mathlib.Core.List.{List, [], _∷_, map}
 use mathlib.Core.Logic.{_↔_}
 use Prim.Native.Nat.{ℕ}
+use lib.ListN.{length, length-map}
 use Rattle.octets.specs.Choice.{pick}
 use Rattle.octets.specs.Numbers.{Octets}
 use Rattle.octets.specs.Outcomes.{Outcome, no, puts}
@@ -16,14 +17,14 @@ use Rattle.ledger.specs.Steps.{Ruled}
 use Rattle.ledger.specs.declared.Answer.{Answer}
 use Rattle.ledger.proofs.CellLaws.{rows-back}
 use Rattle.ledger.proofs.RuleLaws.{kept-rules}
-use Rattle.pages.specs.Pages.{old, new, tablesOf, pageOf, rowsIn, cellsIn, headKeeps, pageKeeps, loadOf, storeOf, turnOf, untimed, NoTimes}
+use Rattle.pages.specs.Pages.{old, new, tablesOf, pageLength, pageOf, rowsIn, cellsIn, headKeeps, pageKeeps, loadOf, storeOf, turnOf, untimed, NoTimes}
 use Rattle.pages.specs.declared.forms.Form.{Form}
 use Rattle.pages.specs.declared.forms.Table.{Table}
-use Rattle.pages.proofs.PageLaws.{shown}
+use Rattle.pages.proofs.PageLaws.{shown, page-long}
 use Rattle.pages.proofs.PageTheorems.{page-kept, page-same, page-ruled, new-apart, untimed-ruled, all-old, all-new}
 
 -- octets that were turned are a page, and what they were turned into
-pub turned : (from to : List Table) (s p : List ℕ) → turnOf from to s ≡ puts p → (pageKeeps from s ≡ true) × (p ≡ pageOf to (rowsIn from s))
+turned : (from to : List Table) (s p : List ℕ) → turnOf from to s ≡ puts p → (pageKeeps from s ≡ true) × (p ≡ pageOf to (rowsIn from s))
 unfolding turnOf
 turned from to s p = go (pageKeeps from s) refl
   where
@@ -53,17 +54,31 @@ none-known : (rows : List Row) → map untimed rows ≡ rows → NoTimes rows
 none-known [] e = tt
 none-known (r ∷ rows) e = (let h : untimed r ≡ r = cc in sym (ap (λ (x : Row). x .time) h), none-known rows cc)
 
-pub none-untimed : (rows : List Row) → NoTimes rows → map untimed rows ≡ rows
+none-untimed : (rows : List Row) → NoTimes rows → map untimed rows ≡ rows
 none-untimed [] n = refl
 none-untimed (r ∷ rows) n = λ i. record { key = r .key; life = r .life; reading = r .reading; time = sym (n .0) i } ∷ none-untimed rows (n .1) i
 
--- New to old to new gives the octets exactly where every time was unknown.
-pub new-old-new : (s : List ℕ) → Octets s → (p : List ℕ) → turnOf new old s ≡ puts p → (turnOf old new p ≡ puts s) ↔ NoTimes (rowsIn new s)
-new-old-new s o p e =
-    let w = turned new old s p e in
-    let rows = rowsIn new s in
-    let k = both (headKeeps new s) (keepsRules (cellsIn new s)) (w .0) in
-    let same = page-same Form.New s o (k .0) in
-    let b = back Form.New Form.Old s o p e ∙ ap (λ x. puts (pageOf new x)) (all-old rows) in
-    (λ h. none-known rows (new-apart (map untimed rows) rows (untimed-ruled rows (page-ruled Form.New s o (w .0))) (page-ruled Form.New s o (w .0)) (puts-same (sym b ∙ h) ∙ sym same)),
-    λ n. b ∙ ap (λ x. puts (pageOf new x)) (none-untimed rows n) ∙ ap puts same)
+-- New to old to new gives the page of the rows without their times, which is as long;
+module _ (s : List ℕ) (o : Octets s) (p : List ℕ) (e : turnOf new old s ≡ puts p) where
+  abbrev rows : List Row
+  rows = rowsIn new s
+
+  ruled : Ruled rows
+  ruled = page-ruled Form.New s o (turned new old s p e .0)
+
+  same : pageOf new rows ≡ s
+  same = page-same Form.New s o (both (headKeeps new s) (keepsRules (cellsIn new s)) (turned new old s p e .0) .0)
+
+  pub untimed-back : turnOf old new p ≡ puts (pageOf new (map untimed rows))
+  untimed-back = back Form.New Form.Old s o p e ∙ ap (λ x. puts (pageOf new x)) (all-old rows)
+
+  pub turned-long : length (pageOf new (map untimed rows)) ≡ length s
+  turned-long =
+      page-long new (map untimed rows) ∙ ap (pageLength new) (length-map rows untimed) ∙ sym (page-long new rows) ∙ ap length same
+
+  -- and these are the octets exactly where every time was unknown.
+  pub new-old-new : (turnOf old new p ≡ puts s) ↔ NoTimes (rowsIn new s)
+  new-old-new = (
+    λ h. none-known rows (new-apart (map untimed rows) rows (untimed-ruled rows ruled) ruled (puts-same (sym untimed-back ∙ h) ∙ sym same)),
+    λ n. untimed-back ∙ ap (λ x. puts (pageOf new x)) (none-untimed rows n) ∙ ap puts same,
+  )

@@ -57,7 +57,7 @@ write2-requires-5 c κs =
       z .pre .2,
       ap (λ f. headLong (tablesOf f)) (e .enum-told2 .given .1),
       four-long _ _ _ _ _ _ _ _ _ (z .pre .1) (first s .write2 .ensures) (second s .write22 .ensures)
-      (third s .write23 .ensures) (fourth s .write24 .ensures),
+          (third s .write23 .ensures) (fourth s .write24 .ensures),
     )
 
 returns : tie.Need-returns

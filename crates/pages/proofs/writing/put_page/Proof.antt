@@ -27,9 +27,11 @@ put-table-requires-2 c κs =
     let p = k .before .before .before .before in
     let h = p .before .before in
     let n = h .before in
-    let z = n .before .before in
-    (z .pre .0, steps.readings-room (z .args .form) (z .args .cells .now) _ _ (n .count-of .ensures) (h .head-long .ensures) _ (z .pre .1) _ (p .put-head .ensures)
-    _ (k .put-table .ensures))
+    let z = n .before .before in (
+      z .pre .0,
+      steps.readings-room (z .args .form) (z .args .cells .now) _ _ (n .count-of .ensures) (h .head-long .ensures) _ (z .pre .1) _ (p .put-head .ensures)
+          _ (k .put-table .ensures),
+    )
 
 put-table-requires-3 : tie.Need-put-table-requires-3
 put-table-requires-3 c κs =
@@ -39,9 +41,11 @@ put-table-requires-3 c κs =
     let p = k .before .before .before .before in
     let h = p .before .before in
     let n = h .before in
-    let z = n .before .before in
-    (z .pre .0, steps.times-room (z .args .form) (z .args .cells .now) _ _ (n .count-of .ensures) (h .head-long .ensures) _ (z .pre .1) _ (p .put-head .ensures)
-    _ (k .put-table .ensures) _ (r .put-table2 .ensures) (e .enum-told2 .given .1))
+    let z = n .before .before in (
+      z .pre .0,
+      steps.times-room (z .args .form) (z .args .cells .now) _ _ (n .count-of .ensures) (h .head-long .ensures) _ (z .pre .1) _ (p .put-head .ensures)
+          _ (k .put-table .ensures) _ (r .put-table2 .ensures) (e .enum-told2 .given .1),
+    )
 
 returns : tie.Need-returns
 returns c =

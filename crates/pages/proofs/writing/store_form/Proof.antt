@@ -45,8 +45,7 @@ put-page-requires c κs =
     let n = l .before in
     let e = n .before .before in
     let k = e .before in
-    let z = k .before .before .before .before in
-    (
+    let z = k .before .before .before .before in (
       kept-rules _ (held (z .args .ledger) _ (z .good .0)) (sym (k .is-kept .ensures) ∙ not-false _ (e .if1 .left)),
       omega (arith, i .if2 .left, l .page-length .ensures, ap (pageLength (form-of k)) (n .count-of .ensures)),
     )

@@ -1,0 +1,56 @@
+-- A page turned into the other form and turned back, by the public operations (02 §5). Assumes nothing.
+use mathlib.Core.List.{List, map}
+use mathlib.Core.Logic.{_↔_}
+use mathlib.Core.Path.{_≡_, refl, sym, ap, _∙_}
+use Prim.Native.Nat.{ℕ, _≤_}
+use borrow.Author.Tests.{le-ltb}
+use lib.ListN.{length, take, drop}
+use lib.Seq.{take-at}
+use Rattle.octets.specs.Numbers.{Octets, laid}
+use Rattle.octets.specs.Outcomes.{Outcome, puts, within, answerOf, outputOf}
+use Rattle.octets.specs.declared.output.Written.{Written}
+use Rattle.octets.proofs.Outcomes.{puts-same, written-laid}
+use Rattle.pages.specs.Pages.{old, new, pageOf, rowsIn, turnOf, untimed, NoTimes}
+use Rattle.pages.specs.declared.forms.Table.{Table}
+use Rattle.pages.proofs.TurnTheorems.{old-new-old, new-old-new, untimed-back, turned-long}
+use Rattle.demands.specs.Contracts.{Turns}
+
+-- octets for which there is room go out
+goes-out : (x : Outcome) (xs l out : List ℕ) (r : Written) → x ≡ puts xs → length xs ≤ length l
+    → out ≡ outputOf l (within (length l) x) → r ≡ answerOf (within (length l) x) → (r ≡ Written.Octets (length xs)) × (take (length xs) out ≡ xs)
+unfolding laid
+goes-out x xs l out r e room o a =
+    let f = le-ltb (length l) (length xs) room in
+    let put : out ≡ laid l 0 xs = rw (e, f) at o in
+    (rw (e, f) at a, ap (take (length xs)) put ∙ take-at xs _ (length xs) refl)
+
+-- what was turned, of the n octets that went out
+turned-into : (from to : List Table) (s o out : List ℕ) (n : ℕ) → Turns from to s o out (Written.Octets n) → turnOf from to s ≡ puts (take n out)
+turned-into from to s o out n h =
+    let w = written-laid (turnOf from to s) o out n (h .0) (h .1) in
+    w .is ∙ ap puts (sym (ap (take n) (w .same) ∙ take-at (w .xs) (drop n o) n (sym (w .long))))
+
+-- Old to new to old gives the same octets.
+pub old-there-and-back : (s : List ℕ) → Octets s → (o out : List ℕ) (n : ℕ) → Turns old new s o out (Written.Octets n)
+    → (o' out' : List ℕ) (r : Written) → length s ≤ length o' → Turns new old (take n out) o' out' r
+    → (r ≡ Written.Octets (length s)) × (take (length s) out' ≡ s)
+old-there-and-back s okay o out n h o' out' r room k =
+    goes-out (turnOf new old (take n out)) s o' out' r (old-new-old s okay (take n out) (turned-into old new s o out n h)) room (k .0) (k .1)
+
+-- New to old to new gives the octets exactly where every time was unknown.
+pub new-there-and-back : (s : List ℕ) → Octets s → (o out : List ℕ) (n : ℕ) → Turns new old s o out (Written.Octets n)
+    → (o' out' : List ℕ) (r : Written) → length s ≤ length o' → Turns old new (take n out) o' out' r
+    → (r ≡ Written.Octets (length s)) × ((take (length s) out' ≡ s) ↔ NoTimes (rowsIn new s))
+new-there-and-back s okay o out n h o' out' r room k =
+    let e = turned-into new old s o out n h in
+    let x = pageOf new (map untimed (rowsIn new s)) in
+    let is = untimed-back s okay (take n out) e in
+    let long : length x ≡ length s = turned-long s okay (take n out) e in
+    let w = goes-out (turnOf old new (take n out)) x o' out' r is (rw long room) (k .0) (k .1) in
+    let same = new-old-new s okay (take n out) e in (
+      w .0 ∙ ap Written.Octets long,
+      (
+        λ z. same .0 (is ∙ ap puts (sym (w .1) ∙ ap (λ m. take m out') long ∙ z)),
+        λ z. ap (λ m. take m out') (sym long) ∙ w .1 ∙ puts-same (sym is ∙ same .1 z),
+      ),
+    )
