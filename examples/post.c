@@ -1,5 +1,5 @@
 /* Reads a block, steps over its records, and posts its statistics reports to the ledger of a page; then posts a feed,
- * which comes in two pieces, to a fresh one.
+ * which comes in two pieces, to a fresh one; then turns an old page into a new one.
  *
  *     rt staticlib doors
  *     cc -O2 -Iinclude -o post examples/post.c target/staticlib/libdoors.a
@@ -23,6 +23,10 @@ static const uint8_t feed[] = {
     0x17, 0x00, 0x13, 0xF1, 0x40, 0x01, 0x02, 0x03, 0x12, 0x00, 0x00, 0x80, 0x01, 0x04, 0x00, 0x00, 0x00, 0x00, 0x1E,
     0x17, 0x00, 0x13, 0xF1, 0x40, 0x01, 0x02, 0x03, 0x12, 0x00, 0x00, 0x80, 0x01, 0x04, 0x80, 0x00, 0x00, 0x00, 0x05};
 enum { FIRST_PIECE = 30 };
+
+/* The page of this feed as the versions before 3 gave it, without times. */
+static const uint8_t old_page[] = {0x00, 0x01, 0x00, 0x08, 0x00, 0x0C, 0x00, 0x18, 0x01, 0x02, 0x12, 0x04,
+                                   0x00, 0x00, 0x00, 0x00, 0x00, 0x00, 0x00, 0xB9, 0x00, 0x00, 0x00, 0x1E};
 
 static const uint8_t fresh[WEAR_FRESH_OCTETS] = WEAR_FRESH_PAGE;
 static uint8_t page[WEAR_PAGE_MOST] = WEAR_FRESH_PAGE;
@@ -70,14 +74,25 @@ static void post(uint64_t record)
     keep_page(after, octets);
 }
 
+static void print_time(uint64_t time)
+{
+    if (time == UINT32_MAX)
+        printf(", time unknown\n");
+    else
+        printf(", time %" PRIu64 "/128 s\n", time);
+}
+
 static void print_page(void)
 {
     size_t rows = number(page, 2);
     const uint8_t *key = page + number(page + 2, 2), *counts = page + number(page + 4, 2);
+    const uint8_t *time = page + number(page + 6, 2);
     printf("page of %zu octets\n", page_octets);
-    for (; rows > 0; rows--, key += 4, counts += 12)
-        printf("  row %08" PRIX64 ": life %" PRIu64 ", reading %" PRIu64 "\n", number(key, 4), number(counts, 8),
+    for (; rows > 0; rows--, key += 4, counts += 12, time += 4) {
+        printf("  row %08" PRIX64 ": life %" PRIu64 ", reading %" PRIu64, number(key, 4), number(counts, 8),
                number(counts + 8, 4));
+        print_time(number(time, 4));
+    }
 }
 
 static void post_block(void)
@@ -134,6 +149,16 @@ static void post_feed(void)
     print_page();
 }
 
+/* A page that was kept from such a version is turned once, when it is read. */
+static void turn_old_page(void)
+{
+    uint64_t octets;
+    must("turn", wear_page_to_new(old_page, sizeof old_page, page, sizeof page, &octets, 1));
+    page_octets = octets;
+    printf("an old page of %zu octets is now a ", sizeof old_page);
+    print_page();
+}
+
 int main(void)
 {
     if (wear_version() != WEAR_VERSION) {
@@ -142,5 +167,6 @@ int main(void)
     }
     post_block();
     post_feed();
+    turn_old_page();
     return EXIT_SUCCESS;
 }

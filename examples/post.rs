@@ -1,5 +1,5 @@
 // Reads a block, steps over its records, and posts its statistics reports to the ledger of a page; then posts a feed,
-// which comes in two pieces, to a fresh one.
+// which comes in two pieces, to a fresh one; then turns an old page into a new one.
 //
 //     rt staticlib doors
 //     rustc --edition 2021 -O -L target/staticlib -o post examples/post.rs
@@ -13,6 +13,14 @@ mod wear {
         fn wear_step(octets: *const u8, n: usize, start: u64, cells: *mut u64, k: usize) -> u32;
         fn wear_entry(octets: *const u8, n: usize, start: u64, number: u64, cells: *mut u64, k: usize)
             -> u32;
+        fn wear_page_to_new(
+            page: *const u8,
+            n: usize,
+            out: *mut u8,
+            m: usize,
+            length: *mut u64,
+            one: usize,
+        ) -> u32;
         fn wear_post(
             page: *const u8,
             n: usize,
@@ -37,7 +45,7 @@ mod wear {
         ) -> u32;
     }
 
-    pub const VERSION: u32 = 2;
+    pub const VERSION: u32 = 3;
 
     pub const ACCEPTED: u32 = 0;
 
@@ -61,9 +69,9 @@ mod wear {
     pub const STOPPED: u64 = 1;
     pub const MORE: u64 = 2;
 
-    pub const PAGE_MOST: usize = 8 + 16 * 256;
-    pub const FRESH_OCTETS: usize = 8;
-    pub const FRESH_PAGE: [u8; FRESH_OCTETS] = [0, 0, 0, 8, 0, 8, 0, 8];
+    pub const PAGE_MOST: usize = 10 + 20 * 256;
+    pub const FRESH_OCTETS: usize = 10;
+    pub const FRESH_PAGE: [u8; FRESH_OCTETS] = [0, 0, 0, 10, 0, 10, 0, 10, 0, 10];
 
     fn given<T>(refusal: u32, value: T) -> Result<T, u32> {
         if refusal == ACCEPTED {
@@ -102,6 +110,17 @@ mod wear {
             wear_entry(block.as_ptr(), block.len(), start, number, cells.as_mut_ptr(), cells.len())
         };
         given(refusal, (cells[1], cells[2], cells[3]))
+    }
+
+    /// An old page as a new one, with all times unknown.
+    pub fn page_to_new(old: &[u8]) -> Result<Vec<u8>, u32> {
+        let mut out = vec![0; PAGE_MOST];
+        let mut length = 0;
+        let refusal = unsafe {
+            wear_page_to_new(old.as_ptr(), old.len(), out.as_mut_ptr(), out.len(), &mut length, 1)
+        };
+        out.truncate(length as usize);
+        given(refusal, out)
     }
 
     /// The page after a record is posted to the ledger of a page.
@@ -168,15 +187,32 @@ const FEED: [u8; 80] = [
 ];
 const FIRST_PIECE: usize = 30;
 
+/// The page of this feed as the versions before 3 gave it, without times.
+const OLD_PAGE: [u8; 24] = [
+    0x00, 0x01, 0x00, 0x08, 0x00, 0x0C, 0x00, 0x18, 0x01, 0x02, 0x12, 0x04, //
+    0x00, 0x00, 0x00, 0x00, 0x00, 0x00, 0x00, 0xB9, 0x00, 0x00, 0x00, 0x1E,
+];
+
 fn number(octets: &[u8]) -> u64 {
     octets.iter().fold(0, |n, &octet| n << 8 | u64::from(octet))
 }
 
+fn print_time(time: u64) {
+    if time == u64::from(u32::MAX) {
+        println!(", time unknown");
+    } else {
+        println!(", time {time}/128 s");
+    }
+}
+
 fn print_page(page: &[u8]) {
     println!("page of {} octets", page.len());
-    let (keys, counts) = page[8..].split_at(4 * number(&page[..2]) as usize);
-    for (key, row) in keys.chunks(4).zip(counts.chunks(12)) {
-        println!("  row {:08X}: life {}, reading {}", number(key), number(&row[..8]), number(&row[8..]));
+    let offset = |i: usize| number(&page[2 * i..2 * i + 2]) as usize;
+    let (keys, counts) = (&page[offset(1)..offset(2)], &page[offset(2)..offset(3)]);
+    let times = &page[offset(3)..];
+    for ((key, row), time) in keys.chunks(4).zip(counts.chunks(12)).zip(times.chunks(4)) {
+        print!("  row {:08X}: life {}, reading {}", number(key), number(&row[..8]), number(&row[8..]));
+        print_time(number(time));
     }
 }
 
@@ -239,12 +275,20 @@ fn post_feed() -> Result<(), u32> {
     Ok(())
 }
 
+/// A page that was kept from such a version is turned once, when it is read.
+fn turn_old_page() -> Result<(), u32> {
+    let page = wear::page_to_new(&OLD_PAGE)?;
+    print!("an old page of {} octets is now a ", OLD_PAGE.len());
+    print_page(&page);
+    Ok(())
+}
+
 fn main() {
     if wear::version() != wear::VERSION {
         println!("the library is of version {}, this of {}", wear::version(), wear::VERSION);
         std::process::exit(1);
     }
-    if let Err(refusal) = post_block().and_then(|()| post_feed()) {
+    if let Err(refusal) = post_block().and_then(|()| post_feed()).and_then(|()| turn_old_page()) {
         println!("refused, {refusal}");
         std::process::exit(1);
     }

@@ -18,7 +18,7 @@ extern "C" {
 #endif
 
 /* The version of this header, and that of the library. They have to be equal. */
-#define WEAR_VERSION 2
+#define WEAR_VERSION 3
 uint32_t wear_version(void);
 
 /* The refusal numbers. */
@@ -131,21 +131,32 @@ uint32_t wear_write(const uint64_t *record, size_t k, const uint8_t *source, siz
 /* Rewrites a block in normal form. length[0] becomes the octets written, 0 on refusal. */
 uint32_t wear_rewrite(const uint8_t *octets, size_t n, uint8_t *out, size_t m, uint64_t *length, size_t one);
 
-/* A ledger's page, high octet first: the row count n, the offset of the keys (8), the offset of the readings (8 + 4n) and the length
- * (8 + 16n), two octets each; then the keys, four octets each and rising strictly: SAC, SIC, the octet of 23/015, TYPE; then for each row
- * the life count (8 octets) and the last reading since midnight (4), which never exceeds it. There are at most 256 rows. A page that is
- * handed over has exactly its length. A page has no times: a ledger that comes from one knows of no row when its last count since midnight
- * came. */
-#define WEAR_PAGE_MOST (8 + 16 * 256)
+/* A ledger's page, high octet first: the row count n, the offsets of the keys (10), of the readings (10 + 4n) and of the times (10 + 16n),
+ * and the length (10 + 20n), two octets each; then the keys, four octets each and rising strictly: SAC, SIC, the octet of 23/015, TYPE; then
+ * for each row the life count (8 octets) and the last reading since midnight (4), which never exceeds it; then for each row the time of that
+ * reading (4 octets, 1/128 s, at most 11,059,327), all ones where it is not known. There are at most 256 rows. A page that is handed over has
+ * exactly its length. */
+#define WEAR_PAGE_MOST (10 + 20 * 256)
 
 /* The page of a fresh ledger, as an initialiser, and its octets. */
-#define WEAR_FRESH_PAGE {0, 0, 0, 8, 0, 8, 0, 8}
-#define WEAR_FRESH_OCTETS 8
+#define WEAR_FRESH_PAGE {0, 0, 0, 10, 0, 10, 0, 10, 0, 10}
+#define WEAR_FRESH_OCTETS 10
+
+/* An old page, as the versions before 3 gave it, has no times and no offset of them: its header is n, 8, 8 + 4n and the length, 8 + 16n. A
+ * page that was kept from one of them has to be turned with wear_page_to_new first: the other functions refuse it with 16. */
+#define WEAR_OLD_PAGE_MOST (8 + 16 * 256)
+
+/* Turns an old page into a new one, with all times unknown. length[0] becomes the octets of the page, 0 on refusal: 16 for any fault of the
+ * page given, then 12. */
+uint32_t wear_page_to_new(const uint8_t *page, size_t n, uint8_t *out, size_t m, uint64_t *length, size_t one);
+
+/* Turns a new page into an old one by leaving out the times. length[0] and the refusals are as above. Old to new to old gives the same
+ * octets, new to old to new where every time was unknown. */
+uint32_t wear_page_to_old(const uint8_t *page, size_t n, uint8_t *out, size_t m, uint64_t *length, size_t one);
 
 /* Posts record `number`, from 0, of a block to the ledger of a page, and stores the ledger as a page. length[0] becomes the octets of the
  * page, 0 on refusal: the page's 16, then the block's and the post's, then 12. Each call reads the whole block and judges the ledger's 256
- * places twice, so that posting all records of a feed with it is quadratic in a block's records: use wear_feed for that. A midnight
- * that only an earlier time tells is not seen from call to call. */
+ * places twice, so that posting all records of a feed with it is quadratic in a block's records: use wear_feed for that. */
 uint32_t wear_post(const uint8_t *page, size_t n, const uint8_t *octets, size_t m, uint64_t number, uint8_t *out, size_t p,
                    uint64_t *length, size_t one);
 
@@ -171,9 +182,9 @@ enum {
 /* Posts the records of all blocks at hand to the ledger of a page, as the program `wear` does, and stores the ledger as a page. A refused
  * block is counted and skipped by LEN. `more` is 0 where the input ends with these octets; otherwise more may come. Where it leaves off
  * with WEAR_MORE, the octets that were not used (fewer than 65,535) are handed over again in the next call, with those that followed.
- * Within a call, a count since midnight at an earlier time than the counter's last one is taken for one after a midnight, however large it
- * is. The page forgets these times, so that a midnight between two calls is seen only where the count is smaller than the last reading;
- * `wear` also sees those that an earlier time tells. Cells: WEAR_FEED_PAGE and those after it, all 0 on refusal: the page's 16, then 12. */
+ * A count since midnight at an earlier time than the counter's last one is taken for one after a midnight, however large it is. The page
+ * keeps these times, so that a feed in pieces, each posted to the page of the call before, gives what one call over the whole gives: the
+ * same page, and blocks and records that add up. Cells: WEAR_FEED_PAGE and those after it, all 0 on refusal: the page's 16, then 12. */
 uint32_t wear_feed(const uint8_t *page, size_t n, const uint8_t *octets, size_t m, uint32_t more, uint8_t *out, size_t p, uint64_t *cells,
                    size_t k);
 

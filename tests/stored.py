@@ -1,14 +1,18 @@
 """The stored cases of each operation, the stored feeds of `wear`, a stored record in cells, and the places of a stored ledger; for tests/vectors and
-tests/outside. An independent program made them from document 01 as 02 amends it: by §1 and §2, post, store and the feeds by §4 too. Those of load
-are from 01 alone; no time is known in them."""
+tests/outside. An independent program made them from document 01 as 02 amends it: those of blocks by §1 and §2, the feeds by §4 too, those of ledgers
+and pages by §5 too. The rated count of a load is for a later request."""
 import json
 import os
 import sys
 
 TESTS = os.path.dirname(os.path.abspath(__file__))
 
-CASES = {'read': 400, 'step': 400, 'entry': 300, 'rewrite': 400, 'write': 400, 'post': 120, 'load': 120, 'store': 100}
+CASES = {'read': 400, 'step': 400, 'entry': 300, 'rewrite': 400, 'write': 400, 'post': 100, 'load': 120, 'store': 120, 'old_to_new': 150,
+         'new_to_old': 150}
 FEEDS = ['feed1', 'feed2', 'feed3']
+
+# The operations that turn a page into the other form, each with its word in a line.
+TURNS = {'old_to_new': 'to_new', 'new_to_old': 'to_old'}
 
 # The cells of a record in wear.h's order, behind category and marks: an item, and its value's name in the stored cases.
 CELLS = [

@@ -14,7 +14,7 @@ WORDS = 'crates/text/src/refusals.rt'
 EXAMPLE = 'examples/post.rs'
 
 PREFIX = 'WEAR_'
-MACROS = ['WEAR_VERSION', 'WEAR_PAGE_MOST', 'WEAR_FRESH_OCTETS']
+MACROS = ['WEAR_VERSION', 'WEAR_PAGE_MOST', 'WEAR_FRESH_OCTETS', 'WEAR_OLD_PAGE_MOST']
 
 # The enums of the header, each by a name that it has.
 ENUMS = {'refusals': 'WEAR_ACCEPTED', 'record': 'WEAR_CELLS', 'feed': 'WEAR_FEED_CELLS', 'left off': 'WEAR_ENDED'}
@@ -25,6 +25,12 @@ UNUSED = [18, 19, 255, 256, 2 ** 32 - 1]
 
 CONSTANT = re.compile(r'^\s*(?:pub(?:\(\w+\))?\s+)?const\s+(\w+)\s*:\s*(\w+)\s*=\s*([^;]+);', re.M)
 NUMERAL = re.compile(r'(0x[0-9A-Fa-f_]+|[0-9][0-9_]*)(?:[iu](?:8|16|32|64|size))?$')
+
+# What C has for a type of the doors, and for one of the example in Rust. A usize of the doors is a number, and has 64 bits.
+OF_DOORS = {'&[u8]': ['const uint8_t *', 'size_t'], '&mut [u8]': ['uint8_t *', 'size_t'], '&[u64]': ['const uint64_t *', 'size_t'],
+            '&mut [u64]': ['uint64_t *', 'size_t'], 'usize': ['uint64_t'], 'u32': ['uint32_t']}
+OF_EXAMPLE = {'*const u8': ['const uint8_t *'], '*mut u8': ['uint8_t *'], '*const u64': ['const uint64_t *'], '*mut u64': ['uint64_t *'],
+              'usize': ['size_t'], 'u64': ['uint64_t'], 'u32': ['uint32_t']}
 
 # An arm of a match with the octets of a sentence, and no other arm between.
 ARM = re.compile(r'([\w:]+)\s*=>(?:(?!=>)[^"])*?\bb"([^"]*)"')
@@ -46,11 +52,15 @@ def read(path):
         return None
 
 
+def header_text():
+    """The header without its comments."""
+    return re.sub(r'/\*.*?\*/', '', read(HEADER), flags=re.S)
+
+
 def header_enums():
     """The names of each enum of the header, by ENUMS. Every enum has to be one of these, so that none is held to nothing."""
-    text = re.sub(r'/\*.*?\*/', '', read(HEADER), flags=re.S)
     enums = {}
-    for body in re.findall(r'\benum\b[^{;]*\{([^}]*)\}', text):
+    for body in re.findall(r'\benum\b[^{;]*\{([^}]*)\}', header_text()):
         names = re.findall(r'(\w+)\s*(?:=[^,]*)?(?:,|$)', body.strip())
         known = [title for title, name in ENUMS.items() if name in names]
         if len(known) != 1 or known[0] in enums:
@@ -59,6 +69,24 @@ def header_enums():
     if len(enums) != len(ENUMS):
         sys.exit('header.py: wear.h has not the enums of %s' % ' '.join(ENUMS[title] for title in ENUMS if title not in enums))
     return enums
+
+
+def header_functions():
+    """The types of each function that the header declares: those of its parameters, and that of its answer."""
+    functions = {}
+    for answer, name, parameters in re.findall(r'^(\w+) (\w+)\(([^)]*)\);', header_text(), re.M):
+        types = [re.sub(r'\w+$', '', parameter.strip()).strip() for parameter in parameters.split(',') if parameter != 'void']
+        functions[name] = types + [answer]
+    return functions
+
+
+def functions_in(text, types):
+    """The functions that a Rattle or Rust source has for C, with the types that C has for theirs."""
+    functions = {}
+    for name, parameters, answer in re.findall(r'\bfn\s+(%s\w+)\s*\(([^)]*)\)\s*->\s*(\w+)' % PREFIX.lower(), re.sub(r'//.*', '', text)):
+        written = [parameter.split(':')[1].strip() for parameter in parameters.split(',') if parameter.strip()] + [answer]
+        functions[name] = [of_c for word in written for of_c in types.get(word, [word])]
+    return functions
 
 
 def program():
@@ -120,10 +148,14 @@ def values_in(path, others=()):
     return {name: value_of(expression, {**dict(others), **constants}) for name, expression in constants.items()}
 
 
+def paths_of_doors():
+    paths = sorted(glob.glob(os.path.join(ROOT, DOORS, '**', '*.rt'), recursive=True))
+    return [os.path.relpath(path, ROOT) for path in paths]
+
+
 def values_in_doors():
     """The constants of each file of the doors, with their values."""
-    paths = sorted(glob.glob(os.path.join(ROOT, DOORS, '**', '*.rt'), recursive=True))
-    paths = [os.path.relpath(path, ROOT) for path in paths]
+    paths = paths_of_doors()
     every = {name: expression for path in paths for name, expression in constants_of(read(path)).items()}
     return {path: values_in(path, every) for path in paths}
 
@@ -164,15 +196,38 @@ def hold_doors(values, enums):
     print('%d names of wear.h held to %s' % (len(names), DOORS))
 
 
+def hold_functions(found, where):
+    """Functions of a source against those that the header declares."""
+    functions = header_functions()
+    for name in found:
+        if name not in functions:
+            differ('%s has the function %s; wear.h has none', where, name)
+        elif found[name] != functions[name]:
+            differ('%s has %s in wear.h; for C it has %s in %s', name, ', '.join(functions[name]), ', '.join(found[name]), where)
+    print('%d functions of wear.h held to %s' % (len(found), where))
+
+
+def hold_all_functions():
+    """The doors' functions, each of which the header declares, and which are all that it declares."""
+    found = {}
+    for path in paths_of_doors():
+        found.update(functions_in(read(path), OF_DOORS))
+    for name in sorted(set(header_functions()) - set(found)):
+        differ('%s is in wear.h; %s has no such function', name, DOORS)
+    hold_functions(found, DOORS)
+
+
 def hold_page(values, fresh):
-    """Document 01: a page has 8 octets, and 16 for each of at most 256 rows; row count, two offsets and length come first."""
-    if values['WEAR_PAGE_MOST'] != 8 + 16 * 256:
-        differ('WEAR_PAGE_MOST is %d, and not 8 + 16 * 256', values['WEAR_PAGE_MOST'])
-    if fresh != [0, 0, 0, 8, 0, 8, 0, 8]:
+    """02 §5: a page has 10 octets, and 20 for each of at most 256 rows; row count, three offsets and length come first. An old one has 8,
+    and 16 for each."""
+    for name, header, row in (('WEAR_PAGE_MOST', 10, 20), ('WEAR_OLD_PAGE_MOST', 8, 16)):
+        if values[name] != header + row * 256:
+            differ('%s is %d, and not %d + %d * 256', name, values[name], header, row)
+    if fresh != [0, 0, 0, 10, 0, 10, 0, 10, 0, 10]:
         differ('WEAR_FRESH_PAGE is %s, and not the page of no rows', fresh)
     if values['WEAR_FRESH_OCTETS'] != len(fresh):
         differ('WEAR_FRESH_OCTETS is %d; WEAR_FRESH_PAGE has %d octets', values['WEAR_FRESH_OCTETS'], len(fresh))
-    print("a page's largest size and a fresh page held to document 01")
+    print("the largest size of a page, and of an old one, and a fresh page held to documents 01 and 02")
 
 
 def hold_sentence(number, sentence, sentences, path):
@@ -232,6 +287,7 @@ def hold_example(values, fresh):
         else:
             differ('%s has %s; wear.h has no %s', EXAMPLE, name[len(PREFIX):], name)
     print('%d names of wear.h held to %s' % (len(names), EXAMPLE))
+    hold_functions(functions_in(module, OF_EXAMPLE), EXAMPLE)
 
 
 def judge(path):
@@ -239,6 +295,7 @@ def judge(path):
     enums = header_enums()
     hold_all(values, enums['refusals'], REFUSALS, values_in(REFUSALS))
     hold_doors(values, enums)
+    hold_all_functions()
     hold_page(values, fresh)
     hold_readme(sentences)
     hold_words(sentences)

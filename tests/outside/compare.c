@@ -1,9 +1,10 @@
-/* compare SEED COUNT <LINES: holds the library to the lines of vectors.py and to the model, on COUNT inputs made here.
+/* compare SEED COUNT <LINES: holds the library to the lines of vectors.py and to the model, on COUNT inputs made here,
+ * and on as many turns of pages from one form into the other.
  *
  * Both sides get equal copies of what is lent, each copy at a page with no access; an empty slice now and then is NULL.
- * Compared are the answer, every lent cell and octet afterwards, and the octets beside a copy. A feed in pieces, where the
- * library gets its own page back in each call, is held to one run of the model over the whole, which forgets the times
- * of the rows where a piece ends. */
+ * Compared are the answer, every lent cell and octet afterwards, and the octets beside a copy. What the library has
+ * turned it has to turn back. A feed in pieces, where the library gets its own page back in each call, is held to one
+ * run of the model over the whole. */
 #define _DEFAULT_SOURCE
 #include <inttypes.h>
 #include <setjmp.h>
@@ -19,14 +20,15 @@
 #include "wear.h"
 
 /* PIECES is FEED once more, call after call. */
-enum function { READ, STEP, ENTRY, WRITE, REWRITE, POST, FEED, PIECES, FUNCTIONS };
-static const char *const function_names[FUNCTIONS] = {"read", "step", "entry", "write", "rewrite", "post", "feed",
-                                                      "pieces"};
+enum function { READ, STEP, ENTRY, WRITE, REWRITE, TO_NEW, TO_OLD, POST, FEED, PIECES, FUNCTIONS };
+static const char *const function_names[FUNCTIONS] = {"read", "step", "entry", "write", "rewrite", "to_new", "to_old",
+                                                      "post", "feed", "pieces"};
 
 enum { ANSWERS = MODEL_ANSWERS, REPORTED = 20 };
 
 /* The numbers that each function can answer, as bits; 12 also where too few cells are lent. Pieces have room enough. */
-static const uint32_t can_answer[FUNCTIONS] = {0x01FFF, 0x21FFF, 0x21FFF, 0x01DE5, 0x01FFF, 0x3FFFF, 0x11001, 0x10001};
+static const uint32_t can_answer[FUNCTIONS] = {0x01FFF, 0x21FFF, 0x21FFF, 0x01DE5, 0x01FFF,
+                                               0x11001, 0x11001, 0x3FFFF, 0x11001, 0x10001};
 
 /* The numbers that the posts of a feed can get: 0, 13, 14, 15. */
 static const uint32_t posts_get = 0x0E001;
@@ -44,14 +46,18 @@ struct side {
     uint32_t (*entry)(const uint8_t *, size_t, uint64_t, uint64_t, uint64_t *, size_t);
     uint32_t (*write)(const uint64_t *, size_t, const uint8_t *, size_t, uint8_t *, size_t, uint64_t *, size_t);
     uint32_t (*rewrite)(const uint8_t *, size_t, uint8_t *, size_t, uint64_t *, size_t);
+    uint32_t (*to_new)(const uint8_t *, size_t, uint8_t *, size_t, uint64_t *, size_t);
+    uint32_t (*to_old)(const uint8_t *, size_t, uint8_t *, size_t, uint64_t *, size_t);
     uint32_t (*post)(const uint8_t *, size_t, const uint8_t *, size_t, uint64_t, uint8_t *, size_t, uint64_t *, size_t);
     uint32_t (*feed)(const uint8_t *, size_t, const uint8_t *, size_t, uint32_t, uint8_t *, size_t, uint64_t *, size_t);
 };
 
 enum { LIBRARY, MODEL, SIDES };
 static const struct side sides[SIDES] = {
-    {"library", wear_read, wear_step, wear_entry, wear_write, wear_rewrite, wear_post, wear_feed},
-    {"model", model_read, model_step, model_entry, model_write, model_rewrite, model_post, model_feed},
+    {"library", wear_read, wear_step, wear_entry, wear_write, wear_rewrite, wear_page_to_new, wear_page_to_old,
+     wear_post, wear_feed},
+    {"model", model_read, model_step, model_entry, model_write, model_rewrite, model_page_to_new, model_page_to_old,
+     model_post, model_feed},
 };
 
 /* ---- what is lent ---- */
@@ -68,13 +74,15 @@ static const uint32_t takes[FUNCTIONS] = {
     [ENTRY] = SLICE(OCTETS) | SLICE(CELLS),
     [WRITE] = SLICE(RECORD) | SLICE(OCTETS) | SLICE(OUT) | SLICE(CELLS),
     [REWRITE] = SLICE(OCTETS) | SLICE(OUT) | SLICE(CELLS),
+    [TO_NEW] = SLICE(PAGE) | SLICE(OUT) | SLICE(CELLS),
+    [TO_OLD] = SLICE(PAGE) | SLICE(OUT) | SLICE(CELLS),
     [POST] = SLICE(PAGE) | SLICE(OCTETS) | SLICE(OUT) | SLICE(CELLS),
     [FEED] = SLICE(PAGE) | SLICE(OCTETS) | SLICE(OUT) | SLICE(CELLS),
 };
 
 /* Whole pages whatever the page size is; MARGIN octets beside a copy have to stay. A feed may have two of the longest
  * blocks. */
-enum { GUARD = 65536, ARENA = 3 * GUARD, MARGIN = 64, MOST_OCTETS = 140000, MOST_PAGE = 4400, MOST_CELLS = 48 };
+enum { GUARD = 65536, ARENA = 3 * GUARD, MARGIN = 64, MOST_OCTETS = 140000, MOST_PAGE = 5200, MOST_CELLS = 48 };
 
 static uint8_t given_octets[MOST_OCTETS], given_page[MOST_PAGE], given_out[MOST_OCTETS];
 static uint64_t given_record[MOST_CELLS], given_cells[MOST_CELLS];
@@ -164,6 +172,10 @@ static uint32_t call(int which)
         return side->write(record, given.record, octets, given.octets, out, given.room, cells, given.cells);
     case REWRITE:
         return side->rewrite(octets, given.octets, out, given.room, cells, given.cells);
+    case TO_NEW:
+        return side->to_new(page, given.page, out, given.room, cells, given.cells);
+    case TO_OLD:
+        return side->to_old(page, given.page, out, given.room, cells, given.cells);
     case POST:
         return side->post(page, given.page, octets, given.octets, given.number, out, given.room, cells, given.cells);
     default:
@@ -179,16 +191,17 @@ static struct {
     uint32_t number;
     size_t cells, out;
     uint64_t cell[MOST_CELLS];
-    uint8_t octets[MOST_OCTETS];
+    uint8_t octets[MOST_OCTETS], any[MOST_OCTETS];  /* where `any` is not 0 the octet is not known */
 } stored;
 
 static uint64_t seed, reported, cases[FUNCTIONS], differing[FUNCTIONS], answers[FUNCTIONS][ANSWERS];
 static uint64_t endings[FUNCTIONS][ENDINGS], nulls[FUNCTIONS][SLICES];
 
-/* Of every eighth feed what it tries, and how many have a midnight that the time alone tells; of feeds in pieces how many
- * give otherwise than the whole. */
+/* Of every eighth feed what it tries, and how many have a midnight that the time alone tells; of feeds in pieces how
+ * many have one that only the times of a page between two calls tell. Of turns, how many pages come back as given, and
+ * how many without their times. */
 static struct model_tried tried;
-static uint64_t told_by_time, otherwise;
+static uint64_t told_by_time, told_by_page, whole_back[FUNCTIONS], untimed_back[FUNCTIONS];
 
 static const char *lent_difference(enum slice slice)
 {
@@ -205,6 +218,14 @@ static const char *lent_difference(enum slice slice)
     return NULL;
 }
 
+static bool is_output_stored(const uint8_t *out)
+{
+    for (size_t i = 0; i < stored.out; i++)
+        if (!stored.any[i] && out[i] != stored.octets[i])
+            return false;
+    return !memcmp(out + stored.out, given_out + stored.out, given.room - stored.out);
+}
+
 /* Both sides agree when this is asked, so that the model's side stands for both. */
 static const char *stored_difference(void)
 {
@@ -216,9 +237,43 @@ static const char *stored_difference(void)
     if (memcmp(lent[MODEL][CELLS], stored.cell, known) ||
         memcmp(lent[MODEL][CELLS] + known, (uint8_t *)given_cells + known, given.cells * sizeof *given_cells - known))
         return "the cells are not the stored ones";
-    if (stored.out > given.room || memcmp(lent[MODEL][OUT], stored.octets, stored.out) ||
-        memcmp(lent[MODEL][OUT] + stored.out, given_out + stored.out, given.room - stored.out))
+    if (stored.out > given.room || !is_output_stored(lent[MODEL][OUT]))
         return "the output is not the stored one";
+    return NULL;
+}
+
+/* The offset of the times in a new page. */
+static size_t times_at(const uint8_t *page)
+{
+    return 10 + 16 * (page[0] * 256u + page[1]);
+}
+
+/* A new page from which the times are left out, and so unknown. */
+static void forget_times(uint8_t *page, size_t n)
+{
+    memset(page + times_at(page), 0xFF, n - times_at(page));
+}
+
+/* 02 §5, both ways: what the library has turned it turns back into the page given, a new one without its times. */
+static const char *back_difference(void)
+{
+    static uint8_t asked[MOST_PAGE], back[MOST_PAGE];
+    enum function turn = given.function;
+    if ((turn != TO_NEW && turn != TO_OLD) || answer[LIBRARY] != WEAR_ACCEPTED)
+        return NULL;
+    uint64_t turned, length = 0;
+    memcpy(&turned, lent[LIBRARY][CELLS], sizeof turned);
+    memset(back, 0, given.page);
+    memcpy(asked, given_page, given.page);
+    if (turn == TO_OLD)
+        forget_times(asked, given.page);
+    calling = LIBRARY;
+    uint32_t number = (turn == TO_NEW ? sides[LIBRARY].to_old : sides[LIBRARY].to_new)(
+        lent[LIBRARY][OUT], (size_t)turned, back, given.page, &length, 1);
+    calling = -1;
+    if (number != WEAR_ACCEPTED || length != given.page || memcmp(back, asked, given.page))
+        return "turned back it is not the page given";
+    (memcmp(back, given_page, given.page) ? untimed_back : whole_back)[turn]++;
     return NULL;
 }
 
@@ -231,7 +286,8 @@ static const char *difference(void)
         if (what)
             return what;
     }
-    return stored_difference();
+    const char *what = stored_difference();
+    return what ? what : back_difference();
 }
 
 static void print_octets(const char *name, const uint8_t *octets, size_t size)
@@ -404,17 +460,20 @@ static uint64_t number_word(void)
     return strtoull(word(), NULL, 10);
 }
 
-static size_t octets_word(uint8_t *octets, size_t most)
+/* Of an answer's octets some may not be known: `any` tells which. Those of an argument all are, and it is NULL. */
+static size_t octets_word(uint8_t *octets, uint8_t *any, size_t most)
 {
     const char *hex = word();
     size_t size = strcmp(hex, "-") ? strlen(hex) / 2 : 0;
-    if (size > most) {
-        printf("line %" PRIu64 ": too many octets\n", given.index);
+    if (size > most || (!any && strchr(hex, '?'))) {
+        printf("line %" PRIu64 ": too many octets, or one that is not known\n", given.index);
         exit(1);
     }
     for (size_t i = 0; i < size; i++) {
         char pair[3] = {hex[2 * i], hex[2 * i + 1], 0};
         octets[i] = (uint8_t)strtoul(pair, NULL, 16);
+        if (any)
+            any[i] = pair[0] == '?';
     }
     return size;
 }
@@ -469,9 +528,10 @@ static void parse_arguments(void)
 {
     if (given.function == WRITE)
         cell_words(given_record, given.record = WEAR_CELLS);
-    if (given.function == POST || given.function == FEED)
-        given.page = octets_word(given_page, MOST_PAGE);
-    given.octets = octets_word(given_octets, MOST_OCTETS);
+    if (takes[given.function] & SLICE(PAGE))
+        given.page = octets_word(given_page, NULL, MOST_PAGE);
+    if (takes[given.function] & SLICE(OCTETS))
+        given.octets = octets_word(given_octets, NULL, MOST_OCTETS);
     if (given.function == STEP || given.function == ENTRY)
         given.start = number_word();
     if (given.function == ENTRY || given.function == POST)
@@ -487,7 +547,7 @@ static void parse_answer(void)
 {
     stored.known = true;
     stored.number = (uint32_t)number_word();
-    stored.out = has_output(given.function) ? octets_word(stored.octets, MOST_OCTETS) : 0;
+    stored.out = has_output(given.function) ? octets_word(stored.octets, stored.any, MOST_OCTETS) : 0;
     stored.cells = cells_needed(given.function);
     if (stored.cells == 1)
         stored.cell[0] = stored.out;
@@ -1202,87 +1262,172 @@ static size_t page_rows(void)
     return rows < wanted ? rows : wanted;
 }
 
+/* An old page, or a new one, which has one offset more, and a time for each row. */
+enum form { OLD, NEW };
+
+static size_t header_octets(enum form form)
+{
+    return form == OLD ? 8 : 10;
+}
+
+static size_t row_octets(enum form form)
+{
+    return form == OLD ? 16 : 20;
+}
+
 static void put_page_number(size_t at, unsigned count, uint64_t number)
 {
     for (unsigned i = count; i > 0; i--, number >>= 8)
         given_page[at + i - 1] = (uint8_t)number;
 }
 
-static void make_page(void)
+/* Where a new page has the offset of the times, an old one has its length: it ends there. */
+static void put_page_header(enum form form, size_t rows)
 {
-    size_t rows = page_rows();
-    bool near = one_in(3);
-    given.page = 8 + 16 * rows;
+    size_t keys_at = header_octets(form);
+    given.page = keys_at + row_octets(form) * rows;
     put_page_number(0, 2, rows);
-    put_page_number(2, 2, 8);
-    put_page_number(4, 2, 8 + 4 * rows);
-    put_page_number(6, 2, given.page);
+    put_page_number(2, 2, keys_at);
+    put_page_number(4, 2, keys_at + 4 * rows);
+    put_page_number(6, 2, keys_at + 16 * rows);
+    put_page_number(keys_at - 2, 2, given.page);
+}
+
+/* A page with so many of the keys. */
+static void make_page(enum form form, size_t rows)
+{
+    size_t keys_at = header_octets(form);
+    bool near = one_in(3), untimed = one_in(4);
+    put_page_header(form, rows);
     for (size_t i = 0; i < rows; i++) {
+        size_t at = keys_at + 4 * rows + 12 * i;
         uint64_t reading = counted();
         uint64_t life = near && one_in(2) ? UINT64_MAX - (one_in(2) ? below(200) : counted())
                         : reading + (one_in(2) ? 0 : one_in(2) ? below(1000) : chance() >> 2);
-        put_page_number(8 + 4 * i, 4, keys[i]);
-        put_page_number(8 + 4 * rows + 12 * i, 8, life);
-        put_page_number(8 + 4 * rows + 12 * i + 8, 4, reading);
+        put_page_number(keys_at + 4 * i, 4, keys[i]);
+        put_page_number(at, 8, life);
+        put_page_number(at + 8, 4, reading);
+        if (form == NEW)
+            put_page_number(keys_at + 16 * rows + 4 * i, 4, untimed || one_in(4) ? UINT32_MAX : some_time());
     }
 }
 
-static void spoil_keys(size_t rows)
+static void spoil_keys(enum form form, size_t rows)
 {
-    size_t i = 1 + below(rows - 1), j = i - 1;
+    size_t i = one_in(2) ? rows - 1 : 1 + below(rows - 1), j = i - 1, keys_at = header_octets(form);
     if (one_in(2)) {
-        memcpy(given_page + 8 + 4 * i, given_page + 8 + 4 * j, 4);
+        memcpy(given_page + keys_at + 4 * i, given_page + keys_at + 4 * j, 4);
         return;
     }
     uint32_t higher = keys[i], lower = keys[j];
-    put_page_number(8 + 4 * j, 4, higher);
-    put_page_number(8 + 4 * i, 4, lower);
+    put_page_number(keys_at + 4 * j, 4, higher);
+    put_page_number(keys_at + 4 * i, 4, lower);
 }
 
-static void spoil_page(void)
+/* A fault of one row: a reading one above its life count, or a time past the latest. */
+static void spoil_row(enum form form, size_t rows)
 {
-    size_t rows = (given.page - 8) / 16, word = below(4);
-    switch (below(9)) {
+    size_t i = one_in(2) ? rows - 1 : below(rows), keys_at = header_octets(form), at = keys_at + 4 * rows + 12 * i;
+    if (form == NEW && one_in(2)) {
+        put_page_number(keys_at + 16 * rows + 4 * i, 4,
+                        ONE_OF(MODEL_LATEST + 1, MODEL_LATEST + 2, 0xFFFFFF, 0x1000000, 0x80000000, UINT32_MAX - 1));
+        return;
+    }
+    uint64_t life = counted() >> 1;
+    put_page_number(at, 8, life);
+    put_page_number(at + 8, 4, life + 1);
+}
+
+/* Octets too many, or missing. */
+static void stretch_page(void)
+{
+    if (one_in(2)) {
+        random_octets(given_page + given.page, 40);
+        given.page += one_in(2) ? 1 : below(40);
+    } else {
+        given.page = one_in(2) ? given.page - 1 : below(given.page);
+    }
+}
+
+/* A page that says 257 rows, and has them. */
+static void make_long_page(enum form form)
+{
+    memset(given_page, 0, MOST_PAGE);
+    put_page_header(form, MOST_ROWS + 1);
+    for (size_t i = 0; i <= MOST_ROWS; i++)
+        put_page_number(header_octets(form) + 4 * i, 4, i);
+}
+
+static void spoil_page(enum form form, size_t rows)
+{
+    size_t word = 2 * below(header_octets(form) / 2);
+    switch (below(10)) {
     case 0:
         put_page_number(0, 2, ONE_OF(rows + 1, rows - 1, 0, 256, 257, 4095, 4096, 65535));
         break;
     case 1:
-        put_page_number(2 * word, 2,
-                        given_page[2 * word] * 256u + given_page[2 * word + 1] + ONE_OF(1, 0xFFFF, 256, 4, 16));
+        put_page_number(word, 2, given_page[word] * 256u + given_page[word + 1] + ONE_OF(1, 0xFFFF, 256, 4, 16, 20));
         break;
     case 2:
-        random_octets(given_page + given.page, 40);
-        given.page += one_in(2) ? 1 : below(40);
+        stretch_page();
         break;
-    case 3:
-        given.page = one_in(2) ? given.page - 1 : below(given.page);
+    case 3:                             /* the length says what was taken away or added */
+        stretch_page();
+        put_page_number(header_octets(form) - 2, 2, given.page);
         break;
     case 4:
-    case 5:
         if (rows > 1)
-            spoil_keys(rows);
+            spoil_keys(form, rows);
         break;
+    case 5:
     case 6:
-        if (rows > 0) {                 /* a reading one above its life count */
-            size_t at = 8 + 4 * rows + 12 * below(rows);
-            uint64_t life = counted() >> 1;
-            put_page_number(at, 8, life);
-            put_page_number(at + 8, 4, life + 1);
-        }
+        if (rows > 0)
+            spoil_row(form, rows);
         break;
-    case 7:                             /* a page that says 257 rows, and has them */
-        memset(given_page, 0, MOST_PAGE);
-        given.page = 8 + 16 * 257;
-        put_page_number(0, 2, 257);
-        put_page_number(2, 2, 8);
-        put_page_number(4, 2, 8 + 4 * 257);
-        put_page_number(6, 2, given.page);
-        for (size_t i = 0; i < 257; i++)
-            put_page_number(8 + 4 * i, 4, i);
+    case 7:
+        make_long_page(form);
+        break;
+    case 8:
+        make_page(form == OLD ? NEW : OLD, rows);
         break;
     default:
         given_page[below(given.page)] = (uint8_t)chance();
     }
+}
+
+/* Keys that rise by one or by more; some begin with the least, or end with the greatest. */
+static void make_keys(size_t rows)
+{
+    uint64_t most = UINT32_MAX / (MOST_ROWS + 1), key = below(most);
+    for (size_t i = 0; i < rows; i++, key += 1 + (one_in(2) ? 0 : below(most)))
+        keys[i] = (uint32_t)key;
+    if (rows > 0 && one_in(4))
+        keys[0] = 0;
+    if (rows > 0 && one_in(4))
+        keys[rows - 1] = UINT32_MAX;
+}
+
+/* Mostly few rows: a turn costs by the row. */
+static void make_turn(enum form form)
+{
+    size_t rows = (size_t)(one_in(24) ? ONE_OF(255, 256, below(257)) : ONE_OF(0, 1, 2, 3 + below(8)));
+    make_keys(rows);
+    make_page(form, rows);
+    if (one_in(3))
+        spoil_page(form, rows);
+    uint64_t length;
+    uint32_t number = (form == OLD ? model_page_to_new : model_page_to_old)(given_page, given.page, scratch,
+                                                                            sizeof scratch, &length, 1);
+    lend_room(number ? below(60) : length);
+}
+
+/* What is posted to: a page with rows that reports meet; one of `spoilt` is spoilt. */
+static void make_ledger_page(uint64_t spoilt)
+{
+    size_t rows = page_rows();
+    make_page(NEW, rows);
+    if (one_in(spoilt))
+        spoil_page(NEW, rows);
 }
 
 static void make_post(void)
@@ -1290,9 +1435,7 @@ static void make_post(void)
     make_octets(!one_in(8));
     given.number = records == 0 || one_in(12) ? ONE_OF(0, 1, records, records + 1, edge()) : below(records);
     note_reported_keys();
-    make_page();
-    if (one_in(6))
-        spoil_page();
+    make_ledger_page(6);
     uint64_t length;
     uint32_t number = model_post(given_page, given.page, given_octets, given.octets, given.number, scratch,
                                  sizeof scratch, &length, 1);
@@ -1376,9 +1519,7 @@ static void make_feed_octets(void)
 static void make_pieces(void)
 {
     make_feed_octets();
-    make_page();
-    if (one_in(8))
-        spoil_page();
+    make_ledger_page(8);
     given.more = (uint32_t)(one_in(2) ? 0 : ONE_OF(1, 2, UINT32_MAX));
 }
 
@@ -1403,8 +1544,9 @@ struct fed {
     uint64_t cells[WEAR_FEED_CELLS];
 };
 
-static struct fed whole, forgetting;    /* the model's: in one call, and with times forgotten between the pieces */
+static struct fed whole;                /* the model's, in one call */
 static struct fed in_pieces;            /* the library's */
+static struct fed forgetting;           /* the model's in pieces, where each page between two calls forgets its times */
 static size_t ends[MOST_CUTS + 1];      /* of the pieces */
 
 static size_t cut_feed(void)
@@ -1417,14 +1559,14 @@ static size_t cut_feed(void)
 }
 
 /* The octets from `at` to `end` stand at a page with no access. */
-static void feed_library(const uint8_t *page, size_t n, size_t at, size_t end, uint32_t more, struct fed *fed)
+static void feed_piece(int side, const uint8_t *page, size_t n, size_t at, size_t end, uint32_t more, struct fed *fed)
 {
     size_t size = end - at;
-    uint8_t *octets = arenas[LIBRARY][OCTETS] + (given.at_end ? ARENA - size : 0);
+    uint8_t *octets = arenas[side][OCTETS] + (given.at_end ? ARENA - size : 0);
     memcpy(octets, given_octets + at, size);
-    calling = LIBRARY;
-    fed->answer = sides[LIBRARY].feed(page, n, size || !given.null ? octets : NULL, size, more, fed->page,
-                                      sizeof fed->page, fed->cells, WEAR_FEED_CELLS);
+    calling = side;
+    fed->answer = sides[side].feed(page, n, size || !given.null ? octets : NULL, size, more, fed->page,
+                                   sizeof fed->page, fed->cells, WEAR_FEED_CELLS);
     calling = -1;
 }
 
@@ -1445,22 +1587,25 @@ static bool goes_on(const struct fed *fed, size_t octets)
 }
 
 /* Octets that a call has not used are handed over again, with the next piece. */
-static void feed_in_pieces(size_t count)
+static void feed_in_pieces(int side, size_t count, bool forgets, struct fed *fed)
 {
     static uint8_t before[WEAR_PAGE_MOST];
     const uint8_t *page = given_page;
     size_t n = given.page, at = 0;
     uint64_t sums[WEAR_FEED_CELLS] = {0};
+    memset(fed, 0, sizeof *fed);
     for (size_t i = 0; i < count; i++) {
-        feed_library(page, n, at, ends[i], i + 1 < count ? 1 : given.more, &in_pieces);
-        add_cells(sums, in_pieces.cells);
-        if (!goes_on(&in_pieces, ends[i] - at))
+        feed_piece(side, page, n, at, ends[i], i + 1 < count ? 1 : given.more, fed);
+        add_cells(sums, fed->cells);
+        if (!goes_on(fed, ends[i] - at))
             break;
         at = sums[WEAR_FEED_USED];
         n = sums[WEAR_FEED_PAGE];
-        page = memcpy(before, in_pieces.page, n);
+        page = memcpy(before, fed->page, n);
+        if (forgets)
+            forget_times(before, n);
     }
-    memcpy(in_pieces.cells, sums, sizeof sums);
+    memcpy(fed->cells, sums, sizeof sums);
 }
 
 static void print_fed(const char *name, const struct fed *fed)
@@ -1472,21 +1617,20 @@ static void print_fed(const char *name, const struct fed *fed)
 
 static void print_pieces(size_t count)
 {
-    print_case("a feed in pieces gives otherwise than the model");
+    print_case("a feed in pieces gives otherwise than the model over the whole");
     printf("  pieces end at:");
     for (size_t i = 0; i < count; i++)
         printf(" %zu", ends[i]);
     printf("\n");
-    print_fed("model", &forgetting);
+    print_fed("model", &whole);
     print_fed("library", &in_pieces);
 }
 
-/* A run of the model that forgets the times where each of the first pieces ends. */
-static void feed_model(size_t forgotten, struct fed *fed)
+static void feed_whole(void)
 {
-    memset(fed, 0, sizeof *fed);
-    fed->answer = model_pieces(given_page, given.page, given_octets, given.octets, given.more, ends, forgotten,
-                               fed->page, sizeof fed->page, fed->cells, WEAR_FEED_CELLS);
+    memset(&whole, 0, sizeof whole);
+    whole.answer = model_feed(given_page, given.page, given_octets, given.octets, given.more, whole.page,
+                              sizeof whole.page, whole.cells, WEAR_FEED_CELLS);
 }
 
 static bool is_same(const struct fed *a, const struct fed *b)
@@ -1495,19 +1639,25 @@ static bool is_same(const struct fed *a, const struct fed *b)
            !memcmp(a->page, b->page, a->cells[WEAR_FEED_PAGE]);
 }
 
+/* Whether a midnight is told by nothing but a time that a page between two calls keeps: without it a life count is
+ * another one. */
+static bool is_told_by_page(size_t count)
+{
+    feed_in_pieces(MODEL, count, true, &forgetting);
+    return whole.answer == WEAR_ACCEPTED && memcmp(whole.page, forgetting.page, times_at(whole.page));
+}
+
 static void run_pieces(void)
 {
     size_t count = cut_feed();
-    feed_model(0, &whole);
-    feed_model(count - 1, &forgetting);
-    memset(&in_pieces, 0, sizeof in_pieces);
-    feed_in_pieces(count);
+    feed_whole();
+    feed_in_pieces(LIBRARY, count, false, &in_pieces);
     cases[PIECES]++;
-    answers[PIECES][forgetting.answer]++;
-    if (forgetting.answer == WEAR_ACCEPTED)
-        endings[PIECES][forgetting.cells[WEAR_FEED_LEFT_OFF]]++;
-    otherwise += !is_same(&whole, &forgetting);
-    if (is_same(&forgetting, &in_pieces))
+    answers[PIECES][whole.answer]++;
+    if (whole.answer == WEAR_ACCEPTED)
+        endings[PIECES][whole.cells[WEAR_FEED_LEFT_OFF]]++;
+    told_by_page += is_told_by_page(count);
+    if (is_same(&whole, &in_pieces))
         return;
     differing[PIECES]++;
     if (reported++ < REPORTED)
@@ -1528,27 +1678,41 @@ static void empty_slice(void)
     }
 }
 
-static void make_case(uint64_t index)
+static void make_case(enum function function, uint64_t index)
 {
-    static const enum function shares[] = {
-        READ, READ, READ, STEP, STEP, STEP, ENTRY, ENTRY, ENTRY, WRITE, WRITE, WRITE, WRITE, REWRITE, REWRITE, REWRITE,
-        POST, POST, POST, POST, FEED, FEED, PIECES};
-    state = seed * UINT64_C(0xD1342543DE82EF95) + index;
-    state = chance();
-    begin_case(shares[below(sizeof shares / sizeof *shares)], index);
+    begin_case(function, index);
     given.null = one_in(8);
-    switch (given.function) {
+    switch (function) {
     case READ: make_read(); break;
     case STEP: make_step(); break;
     case ENTRY: make_entry(); break;
     case WRITE: make_write(); break;
     case REWRITE: make_rewrite(); break;
+    case TO_NEW: make_turn(OLD); break;
+    case TO_OLD: make_turn(NEW); break;
     case POST: make_post(); break;
     case FEED: make_feed(); break;
     default: make_pieces();
     }
     if (given.null && one_in(4))
         empty_slice();
+}
+
+/* An input, and a turn of a page. */
+static void run_made(uint64_t index)
+{
+    static const enum function shares[] = {
+        READ, READ, READ, STEP, STEP, STEP, ENTRY, ENTRY, ENTRY, WRITE, WRITE, WRITE, WRITE, REWRITE, REWRITE, REWRITE,
+        POST, POST, POST, POST, FEED, FEED, PIECES};
+    state = seed * UINT64_C(0xD1342543DE82EF95) + index;
+    state = chance();
+    make_case(shares[below(sizeof shares / sizeof *shares)], index);
+    if (given.function == PIECES)
+        run_pieces();
+    else
+        run_case();
+    make_case(one_in(2) ? TO_NEW : TO_OLD, index);
+    run_case();
 }
 
 /* How often something was met; false where it has to be and never was. */
@@ -1594,7 +1758,15 @@ static bool told_feed(enum function function, bool all)
     if (function == FEED)
         return told_tries(all) && good;
     printf(";");
-    return told_count("otherwise than the whole", otherwise, all) && good;
+    return told_count("a midnight told by a page between calls", told_by_page, all) && good;
+}
+
+/* How pages came back from a turn; an old one has no times to lose. */
+static bool told_turn(enum function function, bool all)
+{
+    printf("; back");
+    bool good = told_count("as given", whole_back[function], all);
+    return told_count("without times", untimed_back[function], all && function == TO_OLD) && good;
 }
 
 static bool told_nulls(enum function function)
@@ -1618,6 +1790,8 @@ static bool told(const char *title, bool all)
         good = told_numbers(answers[function], all ? can_answer[function] : 0) && good;
         if (function == FEED || function == PIECES)
             good = told_feed(function, all) && good;
+        if (function == TO_NEW || function == TO_OLD)
+            good = told_turn(function, all) && good;
         if (all && takes[function])
             good = told_nulls(function) && good;
         printf("\n");
@@ -1628,8 +1802,10 @@ static bool told(const char *title, bool all)
     memset(answers, 0, sizeof answers);
     memset(endings, 0, sizeof endings);
     memset(nulls, 0, sizeof nulls);
+    memset(whole_back, 0, sizeof whole_back);
+    memset(untimed_back, 0, sizeof untimed_back);
     memset(&tried, 0, sizeof tried);
-    told_by_time = otherwise = 0;
+    told_by_time = told_by_page = 0;
     return good;
 }
 
@@ -1658,14 +1834,9 @@ int main(int argc, char **argv)
         printf("no lines\n");
         good = false;
     }
-    printf("%" PRIu64 " inputs of seed %" PRIu64 "\n", count, seed);
-    for (uint64_t index = 0; index < count; index++) {
-        make_case(index);
-        if (given.function == PIECES)
-            run_pieces();
-        else
-            run_case();
-    }
+    printf("%" PRIu64 " inputs of seed %" PRIu64 ", and as many turns of pages\n", count, seed);
+    for (uint64_t index = 0; index < count; index++)
+        run_made(index);
     if (!told("made", true))
         good = false;
     return good ? 0 : 1;

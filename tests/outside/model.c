@@ -1,4 +1,4 @@
-/* Documents 01 and 02 §1, §2 and §4 in plain C: tables of items and categories, and the rules over them. "01" below is the first. */
+/* Documents 01 and 02 §1, §2, §4 and §5 in plain C: tables of items and categories, and the rules over them. "01" below is the first. */
 #include "model.h"
 
 #include <stdbool.h>
@@ -594,16 +594,16 @@ uint32_t model_rewrite(const uint8_t *octets, size_t n, uint8_t *out, size_t m, 
     return ACCEPTED;
 }
 
-/* ---- the ledger (01, "Ledger"; 02 §4) ---- */
+/* ---- pages (01, "Ledger"; 02 §5) ---- */
 
-enum { MOST_ROWS = 256, MOST_ENTRIES = 255, PAGE_HEAD = 8, KEY_OCTETS = 4, COUNT_OCTETS = 12 };
+enum { MOST_ROWS = 256, MOST_ENTRIES = 255 };
+static const uint32_t no_time = UINT32_MAX;
 
 struct row {
     uint32_t key;                   /* SAC, SIC, the octet of 015, TYPE */
     uint64_t life;
     uint32_t reading;
-    bool is_timed;                  /* whether the time of its last entry from midnight is known */
-    uint32_t time;
+    uint32_t time;                  /* of its last entry from midnight, or no_time */
 };
 
 /* There is room for one report's new rows behind a full ledger, so that they can be counted. */
@@ -612,46 +612,119 @@ struct ledger {
     struct row row[MOST_ROWS + MOST_ENTRIES];
 };
 
-static size_t page_octets(size_t rows)
+/* The tables of a page, each with so many octets for a row. The form of a page is how many of them it has. */
+enum table { KEYS, READINGS, TIMES };
+static const unsigned table_octets[] = {[KEYS] = 4, [READINGS] = 12, [TIMES] = 4};
+enum form { OLD = TIMES, NEW = TIMES + 1 };
+
+/* The row count, the offset of each table and the length, two octets each. */
+static size_t header_octets(enum form form)
 {
-    return PAGE_HEAD + rows * (KEY_OCTETS + COUNT_OCTETS);
+    return 2 * ((size_t)form + 2);
 }
 
-/* 02 §4: a page has no times, and loading gives unknown ones. */
-static enum refusal load_page(const uint8_t *page, size_t n, struct ledger *ledger)
+/* The offset of a table; of one more than there are, the length. */
+static size_t table_at(enum form form, size_t rows, unsigned table)
 {
-    if (n < PAGE_HEAD)
-        return RULES_BROKEN;
+    size_t at = header_octets(form);
+    for (unsigned before = 0; before < table; before++)
+        at += rows * table_octets[before];
+    return at;
+}
+
+static size_t page_octets(enum form form, size_t rows)
+{
+    return table_at(form, rows, form);
+}
+
+static size_t cell_at(enum form form, size_t rows, enum table table, size_t row)
+{
+    return table_at(form, rows, table) + row * table_octets[table];
+}
+
+static bool is_header_right(enum form form, const uint8_t *page, size_t n)
+{
+    if (n < header_octets(form))
+        return false;
     size_t rows = (size_t)number_at(page, 2);
-    size_t readings = PAGE_HEAD + KEY_OCTETS * rows;
-    if (rows > MOST_ROWS || number_at(page + 2, 2) != PAGE_HEAD || number_at(page + 4, 2) != readings ||
-        number_at(page + 6, 2) != page_octets(rows) || n != page_octets(rows))
+    for (unsigned table = 0; table <= form; table++)
+        if (number_at(page + 2 + 2 * table, 2) != table_at(form, rows, table))
+            return false;
+    return rows <= MOST_ROWS && n == page_octets(form, rows);
+}
+
+static struct row row_at(enum form form, const uint8_t *page, size_t rows, size_t i)
+{
+    const uint8_t *reading = page + cell_at(form, rows, READINGS, i);
+    return (struct row){.key = (uint32_t)number_at(page + cell_at(form, rows, KEYS, i), 4),
+                        .life = number_at(reading, 8),
+                        .reading = (uint32_t)number_at(reading + 8, 4),
+                        .time = form == OLD ? no_time : (uint32_t)number_at(page + cell_at(form, rows, TIMES, i), 4)};
+}
+
+static bool is_row_right(const struct row *row)
+{
+    return row->reading <= row->life && (row->time <= MODEL_LATEST || row->time == no_time);
+}
+
+static enum refusal load_page(enum form form, const uint8_t *page, size_t n, struct ledger *ledger)
+{
+    if (!is_header_right(form, page, n))
         return RULES_BROKEN;
-    ledger->rows = rows;
-    for (size_t i = 0; i < rows; i++) {
+    ledger->rows = (size_t)number_at(page, 2);
+    for (size_t i = 0; i < ledger->rows; i++) {
         struct row *row = &ledger->row[i];
-        *row = (struct row){.key = (uint32_t)number_at(page + PAGE_HEAD + KEY_OCTETS * i, 4),
-                            .life = number_at(page + readings + COUNT_OCTETS * i, 8),
-                            .reading = (uint32_t)number_at(page + readings + COUNT_OCTETS * i + 8, 4)};
-        if ((i > 0 && row[-1].key >= row->key) || row->reading > row->life)
+        *row = row_at(form, page, ledger->rows, i);
+        if (!is_row_right(row) || (i > 0 && row[-1].key >= row->key))
             return RULES_BROKEN;
     }
     return ACCEPTED;
 }
 
-static void store_page(const struct ledger *ledger, uint8_t *out)
+/* The octets of the page go to *length; where they pass the room, nothing is written. */
+static enum refusal store_page(enum form form, const struct ledger *ledger, uint8_t *out, size_t room, uint64_t *length)
 {
-    size_t readings = PAGE_HEAD + KEY_OCTETS * ledger->rows;
-    put_number(out, 2, ledger->rows);
-    put_number(out + 2, 2, PAGE_HEAD);
-    put_number(out + 4, 2, readings);
-    put_number(out + 6, 2, page_octets(ledger->rows));
-    for (size_t i = 0; i < ledger->rows; i++) {
-        put_number(out + PAGE_HEAD + KEY_OCTETS * i, 4, ledger->row[i].key);
-        put_number(out + readings + COUNT_OCTETS * i, 8, ledger->row[i].life);
-        put_number(out + readings + COUNT_OCTETS * i + 8, 4, ledger->row[i].reading);
+    size_t rows = ledger->rows;
+    if (page_octets(form, rows) > room)
+        return OUTPUT_SHORT;
+    put_number(out, 2, rows);
+    for (unsigned table = 0; table <= form; table++)
+        put_number(out + 2 + 2 * table, 2, table_at(form, rows, table));
+    for (size_t i = 0; i < rows; i++) {
+        uint8_t *reading = out + cell_at(form, rows, READINGS, i);
+        put_number(out + cell_at(form, rows, KEYS, i), 4, ledger->row[i].key);
+        put_number(reading, 8, ledger->row[i].life);
+        put_number(reading + 8, 4, ledger->row[i].reading);
+        if (form == NEW)
+            put_number(out + cell_at(form, rows, TIMES, i), 4, ledger->row[i].time);
     }
+    *length = page_octets(form, rows);
+    return ACCEPTED;
 }
+
+/* 02 §5: 16 for any fault of the page given, then 12. */
+static enum refusal turn(enum form from, enum form to, const uint8_t *page, size_t n, uint8_t *out, size_t m,
+                         uint64_t *length, size_t one)
+{
+    static struct ledger ledger;
+    if (one < 1)
+        return OUTPUT_SHORT;
+    length[0] = 0;
+    enum refusal refusal = load_page(from, page, n, &ledger);
+    return refusal ? refusal : store_page(to, &ledger, out, m, length);
+}
+
+uint32_t model_page_to_new(const uint8_t *page, size_t n, uint8_t *out, size_t m, uint64_t *length, size_t one)
+{
+    return turn(OLD, NEW, page, n, out, m, length, one);
+}
+
+uint32_t model_page_to_old(const uint8_t *page, size_t n, uint8_t *out, size_t m, uint64_t *length, size_t one)
+{
+    return turn(NEW, OLD, page, n, out, m, length, one);
+}
+
+/* ---- the ledger (01, "Ledger"; 02 §4) ---- */
 
 /* The row of a key; a new one starts at 0 and 0, with no known time. */
 static struct row *row_of(struct ledger *ledger, uint32_t key)
@@ -661,7 +734,7 @@ static struct row *row_of(struct ledger *ledger, uint32_t key)
         place++;
     if (place == ledger->rows || ledger->row[place].key != key) {
         memmove(&ledger->row[place + 1], &ledger->row[place], (ledger->rows - place) * sizeof *ledger->row);
-        ledger->row[place] = (struct row){.key = key};
+        ledger->row[place] = (struct row){.key = key, .time = no_time};
         ledger->rows++;
     }
     return &ledger->row[place];
@@ -670,7 +743,7 @@ static struct row *row_of(struct ledger *ledger, uint32_t key)
 /* How the time of an entry's record stands to its row's. */
 static enum model_time standing(const struct row *row, uint32_t time)
 {
-    if (!row->is_timed)
+    if (row->time == no_time)
         return MODEL_UNKNOWN;
     return time < row->time ? MODEL_EARLIER : time == row->time ? MODEL_EQUAL : MODEL_LATER;
 }
@@ -691,7 +764,6 @@ static enum refusal add_up(struct row *row, bool from_last_report, uint32_t coun
     row->life += added;
     if (!from_last_report) {
         row->reading = count;
-        row->is_timed = true;
         row->time = time;
     }
     return ACCEPTED;
@@ -734,7 +806,7 @@ static enum refusal post(struct ledger *ledger, const uint8_t *page, size_t n, c
                          uint64_t number)
 {
     struct block block;
-    enum refusal refusal = load_page(page, n, ledger);
+    enum refusal refusal = load_page(NEW, page, n, ledger);
     if (!refusal)
         refusal = read_block(octets, m, &block);
     if (refusal)
@@ -757,13 +829,7 @@ uint32_t model_post(const uint8_t *page, size_t n, const uint8_t *octets, size_t
     length[0] = 0;
     static struct ledger ledger;
     enum refusal refusal = post(&ledger, page, n, octets, m, number);
-    if (!refusal && page_octets(ledger.rows) > p)
-        refusal = OUTPUT_SHORT;
-    if (refusal)
-        return refusal;
-    store_page(&ledger, out);
-    length[0] = page_octets(ledger.rows);
-    return ACCEPTED;
+    return refusal ? refusal : store_page(NEW, &ledger, out, p, length);
 }
 
 /* ---- a feed (01, the program `wear`) ---- */
@@ -807,27 +873,13 @@ static size_t whole_len(const uint8_t *octets, size_t m, size_t at, bool more, u
     return 0;
 }
 
-static void forget_times(struct ledger *ledger)
-{
-    for (size_t i = 0; i < ledger->rows; i++)
-        ledger->row[i].is_timed = false;
-}
-
-/* Where the ledger goes through a page: when so many octets have come, behind the blocks that are whole by then. */
-struct pages {
-    const size_t *ends;
-    size_t count;
-};
-
 /* Fills in all cells but the page's. */
-static void run_feed(struct ledger *ledger, const uint8_t *octets, size_t m, bool more, struct pages pages,
-                     uint64_t *cells, struct model_tried *tried)
+static void run_feed(struct ledger *ledger, const uint8_t *octets, size_t m, bool more, uint64_t *cells,
+                     struct model_tried *tried)
 {
-    size_t at = 0, page = 0, len;
+    size_t at = 0, len;
     while ((len = whole_len(octets, m, at, more, &cells[WEAR_FEED_LEFT_OFF])) > 0) {
         struct block block;
-        for (; page < pages.count && pages.ends[page] < at + len; page++)
-            forget_times(ledger);
         if (read_block(octets + at, m - at, &block)) {
             cells[WEAR_FEED_REFUSED]++;
         } else {
@@ -845,40 +897,26 @@ static void run_feed(struct ledger *ledger, const uint8_t *octets, size_t m, boo
 
 static struct ledger fed;
 
-static enum refusal feed(const uint8_t *page, size_t n, const uint8_t *octets, size_t m, bool more, struct pages pages,
-                         uint8_t *out, size_t p, uint64_t *cells, size_t k)
+uint32_t model_feed(const uint8_t *page, size_t n, const uint8_t *octets, size_t m, uint32_t more, uint8_t *out,
+                    size_t p, uint64_t *cells, size_t k)
 {
     if (k < WEAR_FEED_CELLS)
         return OUTPUT_SHORT;
     uint64_t counted[WEAR_FEED_CELLS] = {0};
     struct model_tried tried = {0};
     memset(cells, 0, sizeof counted);
-    if (load_page(page, n, &fed))
+    if (load_page(NEW, page, n, &fed))
         return RULES_BROKEN;
-    run_feed(&fed, octets, m, more, pages, counted, &tried);
-    counted[WEAR_FEED_PAGE] = page_octets(fed.rows);
-    if (counted[WEAR_FEED_PAGE] > p)
+    run_feed(&fed, octets, m, more != 0, counted, &tried);
+    if (store_page(NEW, &fed, out, p, &counted[WEAR_FEED_PAGE]))
         return OUTPUT_SHORT;
-    store_page(&fed, out);
     memcpy(cells, counted, sizeof counted);
     return ACCEPTED;
-}
-
-uint32_t model_feed(const uint8_t *page, size_t n, const uint8_t *octets, size_t m, uint32_t more, uint8_t *out,
-                    size_t p, uint64_t *cells, size_t k)
-{
-    return feed(page, n, octets, m, more != 0, (struct pages){NULL, 0}, out, p, cells, k);
-}
-
-uint32_t model_pieces(const uint8_t *page, size_t n, const uint8_t *octets, size_t m, uint32_t more,
-                      const size_t *ends, size_t count, uint8_t *out, size_t p, uint64_t *cells, size_t k)
-{
-    return feed(page, n, octets, m, more != 0, (struct pages){ends, count}, out, p, cells, k);
 }
 
 void model_tries(const uint8_t *page, size_t n, const uint8_t *octets, size_t m, struct model_tried *tried)
 {
     uint64_t cells[WEAR_FEED_CELLS] = {0};
-    if (load_page(page, n, &fed) == ACCEPTED)
-        run_feed(&fed, octets, m, false, (struct pages){NULL, 0}, cells, tried);
+    if (load_page(NEW, page, n, &fed) == ACCEPTED)
+        run_feed(&fed, octets, m, false, cells, tried);
 }

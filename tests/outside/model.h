@@ -13,15 +13,12 @@ uint32_t model_entry(const uint8_t *octets, size_t n, uint64_t start, uint64_t n
 uint32_t model_write(const uint64_t *record, size_t k, const uint8_t *source, size_t n, uint8_t *out, size_t m,
                      uint64_t *length, size_t one);
 uint32_t model_rewrite(const uint8_t *octets, size_t n, uint8_t *out, size_t m, uint64_t *length, size_t one);
+uint32_t model_page_to_new(const uint8_t *page, size_t n, uint8_t *out, size_t m, uint64_t *length, size_t one);
+uint32_t model_page_to_old(const uint8_t *page, size_t n, uint8_t *out, size_t m, uint64_t *length, size_t one);
 uint32_t model_post(const uint8_t *page, size_t n, const uint8_t *octets, size_t m, uint64_t number, uint8_t *out,
                     size_t p, uint64_t *length, size_t one);
 uint32_t model_feed(const uint8_t *page, size_t n, const uint8_t *octets, size_t m, uint32_t more, uint8_t *out,
                     size_t p, uint64_t *cells, size_t k);
-
-/* A feed whose ledger goes through a page `count` times: when ends[0] octets have come, ends[1], and so on, each time
- * behind the blocks that are whole by then. A page has no times (02 §4): those of the rows are forgotten there. */
-uint32_t model_pieces(const uint8_t *page, size_t n, const uint8_t *octets, size_t m, uint32_t more,
-                      const size_t *ends, size_t count, uint8_t *out, size_t p, uint64_t *cells, size_t k);
 
 /* What a feed tries, so that a test can tell: how often its posts get each number; and how the record's time stands to
  * the row's in entries from midnight at or above a reading that is not 0, where it decides what is added (02 §4). */

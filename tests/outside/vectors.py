@@ -1,11 +1,13 @@
 """The stored cases and feeds, and the documents' examples, as lines for the program `compare`.
-Octets are in hex, '-' for none, numbers in decimal; the answer comes last.
+Octets are in hex, '-' for none, numbers in decimal; the answer comes last, with ?? for an octet that is not known.
 
 read OCTETS            NUMBER OFFSET LEN COUNT
 step OCTETS START      NUMBER OFFSET NEXT and the record's cells
 entry OCTETS START K   NUMBER OFFSET and the entry's three values
 write CELLS SOURCE ROOM   NUMBER OUT
 rewrite OCTETS ROOM       NUMBER OUT
+to_new PAGE ROOM          NUMBER OUT
+to_old PAGE ROOM          NUMBER OUT
 post PAGE OCTETS K ROOM   NUMBER OUT
 feed PAGE OCTETS MORE ROOM   NUMBER OUT and the seven cells
 """
@@ -28,23 +30,34 @@ EXAMPLES = [
 OF_A_RECORD = range(4, 12)
 
 # The example of `wear`: P8 with REF and count of its entry, posted one after the other, and the page after each.
-FRESH = '0000000800080008'
+FRESH = '0000000A000A000A000A'
 P8 = '170013F140010203120000800104'
 POSTED = [
-    ('0000000064', '00010008000C001801021204000000000000006400000064'),
-    ('0000000096', '00010008000C001801021204000000000000009600000096'),
-    ('000000001E', '00010008000C00180102120400000000000000B40000001E'),
-    ('8000000005', '00010008000C00180102120400000000000000B90000001E'),
+    ('0000000064', '0001000A000E001A001E0102120400000000000000640000006400000080'),
+    ('0000000096', '0001000A000E001A001E0102120400000000000000960000009600000080'),
+    ('000000001E', '0001000A000E001A001E0102120400000000000000B40000001E00000080'),
+    ('8000000005', '0001000A000E001A001E0102120400000000000000B90000001E00000080'),
 ]
 
+# Document 01's page of it, an old one (02 §5), and the new one that it is turned into.
+OLD_PAGE = '00010008000C00180102120400000000000000B90000001E'
+TURNED = '0001000A000E001A001E0102120400000000000000B90000001EFFFFFFFF'
+
 # 02 §4, a busy day: of P8's counter 100 at 20:00, then 150 at 12:00, without and with 5 from the last report between. The entries, each with
-# time, REF and count, and the page after them in one feed. Posted from page to page no time is known, and the midnight stays hidden.
-EVENING, NOON = (72000 * 128, 0, 100), (43200 * 128, 0, 150)
+# time, REF and count, and the page after each, in one feed or posted from page to page. On a page without the time of 20:00 the midnight
+# stays hidden.
+EVENING, BETWEEN, NOON = (72000 * 128, 0, 100), (43200 * 128, 0x80, 5), (43200 * 128, 0, 150)
+AT_EVENING = '0001000A000E001A001E01021204000000000000006400000064008CA000'
 BUSY = [
-    ([EVENING, NOON], '00010008000C00180102120400000000000000FA00000096'),
-    ([EVENING, (43200 * 128, 0x80, 5), NOON], '00010008000C00180102120400000000000000FF00000096'),
+    [(EVENING, AT_EVENING), (NOON, '0001000A000E001A001E0102120400000000000000FA0000009600546000')],
+    [(EVENING, AT_EVENING), (BETWEEN, '0001000A000E001A001E01021204000000000000006900000064008CA000'),
+     (NOON, '0001000A000E001A001E0102120400000000000000FF0000009600546000')],
 ]
-HIDDEN = '00010008000C001801021204000000000000009600000096'
+UNTIMED = '0001000A000E001A001E01021204000000000000006400000064FFFFFFFF'
+HIDDEN = '0001000A000E001A001E0102120400000000000000960000009600546000'
+
+# The time of a row where it is not known, and where no answer tells it.
+NO_TIME, ANY_TIME = 'FFFFFFFF', '????????'
 
 # How a run over a feed leaves off, as wear.h numbers it.
 ENDED, STOPPED, MORE = range(3)
@@ -59,56 +72,38 @@ def report(key, time, reference, count):
     return '170013F140%s03%s%06X01%s%02X%08X' % (key[:4], key[4:6], time, key[6:], reference, count)
 
 
-def times_of(ledger):
-    """The known times of a ledger's rows, each with its row's key in hex and reading."""
-    rows = stored.places_of(ledger)[:ledger['count']]
-    return [('%08X' % key, time, reading) for key, _, reading, time in rows if time is not None]
-
-
 def page_of(ledger):
-    """A ledger's page, or None where a page cannot say it: over 256 rows, a time past the latest, or something in a place past the
-    rows. A page can say rows that do not rise, or a reading above its life count. It leaves the times out."""
+    """A ledger's page, or None where a page cannot say it: over 256 rows, or something in a place past the rows, and so a ledger that gets 16.
+    A page can say rows that do not rise, a reading above its life count, or a time past the latest."""
     count, places = ledger['count'], stored.places_of(ledger)
-    if count > 256 or any(place != stored.EMPTY for place in places[count:]) or any(time > stored.LATEST for _, time, _ in times_of(ledger)):
+    if count > 256 or any(place != stored.EMPTY for place in places[count:]):
         return None
     places = (places + [stored.EMPTY] * count)[:count]
-    return page_of_rows([('%08X' % key, life, reading) for key, life, reading, _ in places])
+    return page_of_rows([('%08X' % key, life, reading, NO_TIME if time is None else '%08X' % time) for key, life, reading, time in places])
 
 
 def page_of_rows(rows):
-    """The page of rows, each with its key in hex, life count and reading."""
-    head = '%04X%04X%04X%04X' % (len(rows), 8, 8 + 4 * len(rows), 8 + 16 * len(rows))
-    return head + ''.join([key for key, _, _ in rows] + ['%016X%08X' % (life, reading) for _, life, reading in rows])
+    """The page of rows, each with its key in hex, life count, reading, and time in hex."""
+    count = len(rows)
+    head = '%04X%04X%04X%04X%04X' % (count, 10, 10 + 4 * count, 10 + 16 * count, 10 + 20 * count)
+    readings = ['%016X%08X' % (life, reading) for _, life, reading, _ in rows]
+    return head + ''.join([key for key, _, _, _ in rows] + readings + [time for _, _, _, time in rows])
 
 
 def kept(page, room, number, out):
-    """A page through a post that changes nothing; a fresh one, which has no row for that, through the example P8."""
-    if len(page) < 24 or page.upper() == FRESH:
-        block, after = P8 + POSTED[0][0], POSTED[0][1]
-        if number == 12 or number == 0 and room < len(after) // 2:
-            number, out = 12, ''
-        elif number == 0:
-            out = after
-        return line('post', page, block, 0, room, number, out)
-    return line('post', page, report(page[16:24], 0, 0x80, 0), 0, room, number, out)
+    """A page through a feed of no octets, which loads it and stores it."""
+    return line('feed', page, '', 0, room, number, out, len(out) // 2, 0, ENDED, 0, 0, 0, 0)
 
 
-def is_alone(octets):
-    """Whether a block has one record, of 010, 000, 015, 070 and 120 alone."""
-    return octets[6:10].upper() == 'F140' and len(octets) // 2 == 13 + 6 * int(octets[24:26], 16)
-
-
-def post_line(case):
-    """A post from page to page, on which there are no times. Where some are known and may decide (0, 15), a feed: for each time a report with
-    the reading of its row, which changes nothing else, and then the block, if it has no other record."""
-    page, after, number, times = page_of(case['ledger']), page_of(case['after']), case['number'], times_of(case['ledger'])
-    if page is None or number not in (0, 15) or not times:
-        return page and line('post', page, case['in'], case['k'], stored.ENOUGH, number, after if number == 0 else '')
-    if not is_alone(case['in']):
+def of_ledger(case):
+    """A post or a store, from page to page."""
+    page = page_of(case['ledger'])
+    if page is None:
+        stored.must(case['number'] == 16, 'a ledger that no page can say gets %d' % case['number'])
         return None
-    feed = ''.join(report(key, time, 0, reading) for key, time, reading in times) + case['in']
-    cells = [len(after) // 2, len(feed) // 2, ENDED, len(times) + 1, 0, len(times) + (number == 0), int(number == 15)]
-    return line('feed', page, feed, 0, stored.ENOUGH, 0, after, *cells)
+    if case['op'] == 'store':
+        return kept(page, stored.room_of(case), case['number'], case['out'])
+    return line('post', page, case['in'], case['k'], stored.ENOUGH, case['number'], page_of(case['after']) if case['number'] == 0 else '')
 
 
 def line_of(case):
@@ -127,12 +122,11 @@ def line_of(case):
     if op == 'write':
         cells = stored.cells_of(case['record'])
         return cells and line(op, *cells, case['source'], stored.room_of(case), number, case['out'])
-    if op == 'post':
-        return post_line(case)
+    if op in stored.TURNS:
+        return line(stored.TURNS[op], case['page'], stored.room_of(case), number, case['out'])
     if op == 'load':
         return kept(case['page'], stored.ENOUGH, number, case['page'] if number == 0 else '')
-    page = page_of(case['ledger'])
-    return page and kept(page, stored.room_of(case), number, case['out'])
+    return of_ledger(case)
 
 
 def left_off(octets, more):
@@ -163,9 +157,9 @@ def feed_lines(octets, page, accepted, refused, posted, unposted):
 
 
 def stored_feeds():
-    """Each stored feed, with the rows and totals of the sheet that `wear` prints for it."""
+    """Each stored feed, with the rows and totals of the sheet that `wear` prints for it, on which there are no times."""
     for octets, rows, totals in stored.feeds():
-        yield from feed_lines(octets, page_of_rows(rows), *totals)
+        yield from feed_lines(octets, page_of_rows([row + (ANY_TIME,) for row in rows]), *totals)
 
 
 def examples():
@@ -177,25 +171,31 @@ def examples():
         yield line('post', page, P8 + entry, 0, stored.ENOUGH, 0, after)
         page = after
     yield from feed_lines(bytes.fromhex(''.join(P8 + entry for entry, _ in POSTED)), page, 4, 0, 4, 0)
-    for entries, page in BUSY:
-        feed = ''.join(report('01021204', *entry) for entry in entries)
-        yield from feed_lines(bytes.fromhex(feed), page, len(entries), 0, len(entries), 0)
-    yield line('post', FRESH, report('01021204', *EVENING), 0, stored.ENOUGH, 0, POSTED[0][1])
-    yield line('post', POSTED[0][1], report('01021204', *NOON), 0, stored.ENOUGH, 0, HIDDEN)
+    for day in BUSY:
+        page = FRESH
+        for entry, after in day:
+            yield line('post', page, report('01021204', *entry), 0, stored.ENOUGH, 0, after)
+            page = after
+        feed = ''.join(report('01021204', *entry) for entry, _ in day)
+        yield from feed_lines(bytes.fromhex(feed), page, len(day), 0, len(day), 0)
+    yield line('post', UNTIMED, report('01021204', *NOON), 0, stored.ENOUGH, 0, HIDDEN)
+    yield line('to_new', OLD_PAGE, stored.ENOUGH, 0, TURNED)
+    for page in (TURNED, POSTED[-1][1]):
+        yield line('to_old', page, stored.ENOUGH, 0, OLD_PAGE)
+    yield line('post', OLD_PAGE, P8 + POSTED[0][0], 0, stored.ENOUGH, 16, '')
+    yield kept(OLD_PAGE, stored.ENOUGH, 16, '')
 
 
 def main():
     of_examples, of_feeds = list(examples()), list(stored_feeds())
     print('\n'.join(of_examples + of_feeds))
-    why = {'write': 'an extension of item 110, for which a record has no cell', 'store': 'a ledger that no page can say',
-           'post': 'a ledger that no page can say, or known times and a block with more than one plain record'}
+    no_page = 'a ledger that no page can say, and that gets 16'
+    why = {'write': 'an extension of item 110, for which a record has no cell', 'store': no_page, 'post': no_page}
     for op, count in stored.CASES.items():
         lines = [line_of(case) for case in stored.cases(op)]
         left_out = lines.count(None)
         print('\n'.join(text for text in lines if text))
-        as_feeds = sum(1 for text in lines if text and text.startswith('feed'))
-        note = ', %d of them as feeds' % as_feeds if as_feeds else ''
-        note += ', %d left out: %s' % (left_out, why[op]) if left_out else ''
+        note = ', %d left out: %s' % (left_out, why[op]) if left_out else ''
         print('stored %s: %d of %d%s' % (op, count - left_out, count, note), file=sys.stderr)
     print('stored feeds: %d lines' % len(of_feeds), file=sys.stderr)
     print('examples of the documents: %d' % len(of_examples), file=sys.stderr)

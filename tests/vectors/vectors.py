@@ -65,6 +65,8 @@ def line_and_answer(case):
         return 'load ' + case['page'], ledger_numbers(case['number'], case['ledger'])
     if case['op'] == 'store':
         return 'store %d %s' % (stored.room_of(case), ledger_octets(case['ledger'])), written(case)
+    if case['op'] in stored.TURNS:
+        return '%s %d %s' % (stored.TURNS[case['op']], stored.room_of(case), case['page']), written(case)
     if case['op'] in ('rewrite', 'write'):
         room = stored.room_of(case)
         if case['op'] == 'rewrite':
