@@ -23,6 +23,10 @@ pub const LOAD: u64 = 0x6C6F_6164;
 
 pub const STORE: u64 = 0x73_746F_7265;
 
+pub const TO_NEW: u64 = 0x746F_5F6E_6577;
+
+pub const TO_OLD: u64 = 0x746F_5F6F_6C64;
+
 pub const FEED: u64 = 0x6665_6564;
 
 // The most numbers before the octets: the room, and the cells of a record.
@@ -99,6 +103,8 @@ fn numbers_of(operation: u64) -> usize {
         POST => 1,
         LOAD => 0,
         STORE => 1,
+        TO_NEW => 1,
+        TO_OLD => 1,
         FEED => 1,
         _ => MOST + 1,
     }
@@ -109,12 +115,12 @@ pub(crate) fn is_numbered(case: Case) -> bool {
     numbers_of(case.operation) <= case.given
 }
 
-// One letter more of the operation: REWRITE is the largest number, and what comes before `a` is no letter of any.
+// One letter more of the operation: REWRITE is the largest number, and what comes before `_` is no letter of any.
 fn letter(letters: u64, c: u8) -> Line {
     if REWRITE < letters {
         return wrong();
     }
-    if c < b'a' {
+    if c < b'_' {
         return wrong();
     }
     Line {

@@ -2,6 +2,8 @@
 use crate::case::Case;
 use crate::case::REWRITE;
 use crate::case::STORE;
+use crate::case::TO_NEW;
+use crate::case::TO_OLD;
 use crate::case::unknown;
 use crate::ledgers::ledger_of;
 use doors::cell::CELLS;
@@ -10,6 +12,8 @@ use doors::cells::record_of;
 use octets::output::Written;
 use octets::refusal;
 use pages::store;
+use pages::to_new;
+use pages::to_old;
 use text::emit;
 use text::hex;
 use text::more;
@@ -76,6 +80,12 @@ fn written(s: &[u8], out: &mut [u8], case: Case) -> Written {
     }
     if case.operation == STORE {
         return store(ledger_of(s), out);
+    }
+    if case.operation == TO_NEW {
+        return to_new(s, out);
+    }
+    if case.operation == TO_OLD {
+        return to_old(s, out);
     }
     write_cells(cells, s, out)
 }
