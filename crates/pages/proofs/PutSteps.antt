@@ -207,7 +207,7 @@ module _ (all : List Table) (cells : List ℕ) where
       rw (length-append, head-long all (length rows), tables-long ts rows, rows-many cells) in
       ap length e ∙ length-laid l 0 (begun all ts rows) (rw long (omega arith))
 
--- the tables one after the other, with the offsets that the code has
+-- the tables one after the other
 module _ (f : Form) (cells : List ℕ) (n long : ℕ) (en : n ≡ countOf cells) (el : long ≡ headLong (tablesOf f)) (l : List ℕ)
     (room : pageLength (tablesOf f) (countOf cells) ≤ length l) (l₁ : List ℕ) (e₁ : l₁ ≡ laid l 0 (headOf (tablesOf f) n)) where
   abbrev all : List Table
@@ -219,24 +219,24 @@ module _ (f : Form) (cells : List ℕ) (n long : ℕ) (en : n ≡ countOf cells)
   headed : l₁ ≡ laid l 0 (begun all [] (rowsOf cells))
   headed = begun-none all cells n en l l₁ e₁
 
-  pub keys-room : long + 4 * countOf cells ≤ length l₁
+  pub keys-room : (at : ℕ) → at ≡ long → at + 4 * countOf cells ≤ length l₁
   unfolding rowLong
-  keys-room = omega (arith, fits, en, begun-long all cells [] l l₁ (omega (arith, fits, el)) headed)
+  keys-room at is = omega (arith, fits, en, begun-long all cells [] l l₁ (omega (arith, fits, el)) headed)
 
-  module _ (l₂ : List ℕ) (e₂ : l₂ ≡ laid l₁ long (table (rowOctets Table.Keys) (rowsOf cells))) where
+  module _ (l₂ : List ℕ) (at₁ : ℕ) (e₂ : l₂ ≡ laid l₁ at₁ (table (rowOctets Table.Keys) (rowsOf cells))) (is₁ : at₁ ≡ long) where
     keyed : l₂ ≡ laid l 0 (begun all (Table.Keys ∷ []) (rowsOf cells))
     unfolding rowLong
-    keyed = begun-more all cells [] Table.Keys long (omega (arith, el)) l l₁ l₂ (omega (arith, fits)) headed e₂
+    keyed = begun-more all cells [] Table.Keys at₁ (omega (arith, is₁, el)) l l₁ l₂ (omega (arith, is₁, fits)) headed e₂
 
-    pub readings-room : long + 4 * n + 12 * countOf cells ≤ length l₂
+    pub readings-room : (at : ℕ) → at ≡ long + 4 * n → at + 12 * countOf cells ≤ length l₂
     unfolding rowLong
-    readings-room = omega (arith, fits, en, begun-long all cells (Table.Keys ∷ []) l l₂ (omega (arith, fits, en, el)) keyed)
+    readings-room at is = omega (arith, fits, en, begun-long all cells (Table.Keys ∷ []) l l₂ (omega (arith, fits, en, el)) keyed)
 
-    module _ (l₃ : List ℕ) (e₃ : l₃ ≡ laid l₂ (long + 4 * n) (table (rowOctets Table.Readings) (rowsOf cells))) where
+    module _ (l₃ : List ℕ) (at₂ : ℕ) (e₃ : l₃ ≡ laid l₂ at₂ (table (rowOctets Table.Readings) (rowsOf cells))) (is₂ : at₂ ≡ long + 4 * n) where
       read : l₃ ≡ laid l 0 (begun all (Table.Keys ∷ Table.Readings ∷ []) (rowsOf cells))
       unfolding rowLong
       read =
-          begun-more all cells (Table.Keys ∷ []) Table.Readings (long + 4 * n) (omega (arith, en, el)) l l₂ l₃ (omega (arith, fits)) keyed e₃
+          begun-more all cells (Table.Keys ∷ []) Table.Readings at₂ (omega (arith, is₂, en, el)) l l₂ l₃ (omega (arith, is₂, fits)) keyed e₃
 
       pub page-old : f ≡ Form.Old → l₃ ≡ laid l 0 (pageOf all (rowsOf cells))
       page-old o = read ∙ ap (λ ts. laid l 0 (begun all ts (rowsOf cells))) (sym (ap tablesOf o))
@@ -245,16 +245,16 @@ module _ (f : Form) (cells : List ℕ) (n long : ℕ) (en : n ≡ countOf cells)
         whole : long + 20 * n ≤ length l
         whole = omega (arith, room, en, el, length-new f (countOf cells) o, ap (λ g. headLong (tablesOf g)) o)
 
-        pub times-room : long + 16 * n + 4 * countOf cells ≤ length l₃
+        pub times-room : (at : ℕ) → at ≡ long + 16 * n → at + 4 * countOf cells ≤ length l₃
         unfolding rowLong
-        times-room =
+        times-room at is =
             omega (arith, whole, en, begun-long all cells (Table.Keys ∷ Table.Readings ∷ []) l l₃ (omega (arith, fits, en, el)) read)
 
-        pub page-new : (l₄ : List ℕ) → l₄ ≡ laid l₃ (long + 16 * n) (table (rowOctets Table.Times) (rowsOf cells))
+        pub page-new : (l₄ : List ℕ) (at₃ : ℕ) → l₄ ≡ laid l₃ at₃ (table (rowOctets Table.Times) (rowsOf cells)) → at₃ ≡ long + 16 * n
             → l₄ ≡ laid l 0 (pageOf all (rowsOf cells))
         unfolding rowLong
-        page-new l₄ e₄ =
-            begun-more all cells (Table.Keys ∷ Table.Readings ∷ []) Table.Times (long + 16 * n) (omega (arith, en, el)) l l₃ l₄ (omega (arith, fits)) read e₄
+        page-new l₄ at₃ e₄ is₃ =
+            begun-more all cells (Table.Keys ∷ Table.Readings ∷ []) Table.Times at₃ (omega (arith, is₃, en, el)) l l₃ l₄ (omega (arith, is₃, fits)) read e₄
             ∙ ap (λ ts. laid l 0 (begun all ts (rowsOf cells))) (sym (ap tablesOf o))
 
 -- What is answered, where the rules are kept or not

@@ -19,7 +19,7 @@ put-table-requires c κs =
     let h = p .before .before in
     let n = h .before in
     let z = n .before .before in
-    (z .pre .0, steps.keys-room (z .args .form) (z .args .cells .now) _ _ (n .count-of .ensures) (h .head-long .ensures) _ (z .pre .1) _ (p .put-head .ensures))
+    (z .pre .0, steps.keys-room (z .args .form) (z .args .cells .now) _ _ (n .count-of .ensures) (h .head-long .ensures) _ (z .pre .1) _ (p .put-head .ensures) _ (search needs))
 
 put-table-requires-2 : tie.Need-put-table-requires-2
 put-table-requires-2 c κs =
@@ -30,7 +30,7 @@ put-table-requires-2 c κs =
     let z = n .before .before in (
       z .pre .0,
       steps.readings-room (z .args .form) (z .args .cells .now) _ _ (n .count-of .ensures) (h .head-long .ensures) _ (z .pre .1) _ (p .put-head .ensures)
-          _ (k .put-table .ensures),
+          _ _ (k .put-table .ensures) (search needs) _ (search needs),
     )
 
 put-table-requires-3 : tie.Need-put-table-requires-3
@@ -44,7 +44,7 @@ put-table-requires-3 c κs =
     let z = n .before .before in (
       z .pre .0,
       steps.times-room (z .args .form) (z .args .cells .now) _ _ (n .count-of .ensures) (h .head-long .ensures) _ (z .pre .1) _ (p .put-head .ensures)
-          _ (k .put-table .ensures) _ (r .put-table2 .ensures) (e .enum-told2 .given .1),
+          _ _ (k .put-table .ensures) (search needs) _ _ (r .put-table2 .ensures) (search needs) (e .enum-told2 .given .1) _ (search needs),
     )
 
 returns : tie.Need-returns
@@ -56,7 +56,7 @@ returns c =
     let n = h .before in
     let z = n .before .before in
     steps.page-old (z .args .form) (z .args .cells .now) _ _ (n .count-of .ensures) (h .head-long .ensures) _ (z .pre .1) _ (p .put-head .ensures)
-    _ (k .put-table .ensures) _ (r .put-table2 .ensures) (c .enum-told .given .1)
+    _ _ (k .put-table .ensures) (search needs) _ _ (r .put-table2 .ensures) (search needs) (c .enum-told .given .1)
 
 returns-2 : tie.Need-returns-2
 returns-2 c =
@@ -69,7 +69,7 @@ returns-2 c =
     let n = h .before in
     let z = n .before .before in
     steps.page-new (z .args .form) (z .args .cells .now) _ _ (n .count-of .ensures) (h .head-long .ensures) _ (z .pre .1) _ (p .put-head .ensures)
-    _ (k .put-table .ensures) _ (r .put-table2 .ensures) (e .enum-told2 .given .1) _ (t .put-table3 .ensures)
+    _ _ (k .put-table .ensures) (search needs) _ _ (r .put-table2 .ensures) (search needs) (e .enum-told2 .given .1) _ _ (t .put-table3 .ensures) (search needs)
 
 pub put-page-spec : {M : Type 1} → statement M
 put-page-spec =
