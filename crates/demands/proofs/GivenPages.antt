@@ -69,6 +69,10 @@ new-head-given s =
       ),
     )
 
+-- No octets have the head of both.
+pub not-both : (s : List ℕ) → OldHead s → NewHead s → ⊥
+not-both s o n = let e : _≡_ {A = ℕ} 8 10 = sym (o .keys) ∙ n .keys in omega arith
+
 -- Loading
 
 module _ (ts : List Table) (s : List ℕ) where
