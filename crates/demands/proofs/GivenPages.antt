@@ -5,68 +5,43 @@ use mathlib.Core.Logic.{_↔_, _⊎_, inl, inr}
 use mathlib.Core.Path.{_≡_, sym, ap, _∙_}
 use Prim.Native.Nat.{ℕ, _+_, _*_, _≤_}
 use native.Mathlib.Omega.{arith}
-use borrow.Author.Tests.{eqb-true, le-leb, eq-eqb}
-use lib.Dec.{eqb}
 use lib.ListN.{length}
-use Rattle.octets.specs.Numbers.{number}
 use Rattle.octets.specs.Outcomes.{no, puts}
 use Rattle.octets.specs.Refusals.{rulesBroken}
 use Rattle.octets.specs.declared.output.Written.{Written}
-use Rattle.octets.proofs.Cases.{test, both, choose}
+use Rattle.octets.proofs.Cases.{test, choose}
 use Rattle.octets.proofs.Outcomes.{no-same, puts-same, not-puts}
 use Rattle.ledger.specs.Ledgers.{answer, rowsOf, cellsOf, keepsRules}
-use Rattle.pages.specs.Pages.{old, new, rowLong, starts, pageOf, storeOf, countIn, rowsIn, cellsIn, stand, headKeeps, loadOf, turnOf}
+use Rattle.pages.specs.Pages.{old, new, rowLong, starts, pageOf, storeOf, countIn, rowsIn, cellsIn, headKeeps, loadOf, turnOf}
 use Rattle.pages.specs.declared.forms.Table.{Table}
 use Rattle.ledger.specs.declared.Answer.{Answer}
 use Rattle.ledger.specs.declared.Ledger.{Ledger}
-use Rattle.pages.proofs.PageLaws.{head-says}
+use Rattle.pages.proofs.PageLaws.{Stand, head-says, head-so}
 use Rattle.demands.specs.Contracts.{Loads, Stores, Turns}
 use Rattle.demands.specs.GivenPages.{OldHead, NewHead, Page, NoPage, StoreFault, TurnFault}
 use Rattle.demands.proofs.GivenOutputs.{output-given, output-written}
 
 -- A page's head, in words.
 pub old-head-given : (s : List ℕ) → (headKeeps old s ≡ true) ↔ OldHead s
-unfolding starts stand rowLong
+unfolding starts Stand rowLong
 old-head-given s =
-    let n = countIn s in
-    let z : 8 + 0 * n ≡ 8 = omega arith in (
+    let z : 8 + 0 * countIn s ≡ 8 = omega arith in (
       λ h.
           let w = head-says old s h in
-          let a = both (eqb (number 2 s 2) (8 + 0 * n)) _ (w .stands) in
-          let b = both (eqb (number 2 s 4) (8 + 4 * n)) _ (a .1) in
-          let c = both (eqb (number 2 s 6) (8 + 16 * n)) _ (b .1) in
-          record { few = w .few; keys = eqb-true _ _ (a .0) ∙ z; readings = eqb-true _ _ (b .0); size = eqb-true _ _ (c .0); long = w .long },
-      λ w. rw (le-leb _ _ (w .few), z, eq-eqb _ _ (w .keys), eq-eqb _ _ (w .readings), eq-eqb _ _ (w .size), eq-eqb _ _ (w .long)),
+          let n = w .stands in
+          record { few = w .few; keys = n .0 ∙ z; readings = n .1 .0; size = n .1 .1 .0; long = w .long },
+      λ w. head-so old s (w .few) (w .keys ∙ sym z, (w .readings, (w .size, tt))) (w .long),
     )
 
 pub new-head-given : (s : List ℕ) → (headKeeps new s ≡ true) ↔ NewHead s
-unfolding starts stand rowLong
+unfolding starts Stand rowLong
 new-head-given s =
-    let n = countIn s in
-    let z : 10 + 0 * n ≡ 10 = omega arith in (
+    let z : 10 + 0 * countIn s ≡ 10 = omega arith in (
       λ h.
           let w = head-says new s h in
-          let a = both (eqb (number 2 s 2) (10 + 0 * n)) _ (w .stands) in
-          let b = both (eqb (number 2 s 4) (10 + 4 * n)) _ (a .1) in
-          let c = both (eqb (number 2 s 6) (10 + 16 * n)) _ (b .1) in
-          let d = both (eqb (number 2 s 8) (10 + 20 * n)) _ (c .1) in
-          record {
-            few = w .few;
-            keys = eqb-true _ _ (a .0) ∙ z;
-            readings = eqb-true _ _ (b .0);
-            times = eqb-true _ _ (c .0);
-            size = eqb-true _ _ (d .0);
-            long = w .long;
-          },
-      λ w. rw (
-        le-leb _ _ (w .few),
-        z,
-        eq-eqb _ _ (w .keys),
-        eq-eqb _ _ (w .readings),
-        eq-eqb _ _ (w .times),
-        eq-eqb _ _ (w .size),
-        eq-eqb _ _ (w .long),
-      ),
+          let n = w .stands in
+          record { few = w .few; keys = n .0 ∙ z; readings = n .1 .0; times = n .1 .1 .0; size = n .1 .1 .1 .0; long = w .long },
+      λ w. head-so new s (w .few) (w .keys ∙ sym z, (w .readings, (w .times, (w .size, tt)))) (w .long),
     )
 
 -- No octets have the head of both.

@@ -10,7 +10,7 @@ ghost use Rattle.octets.specs.Outcomes.{within, answerOf, outputOf, listedWritt
 ghost use Rattle.blocks.specs.Walks.{readListed};
 ghost use Rattle.blocks.specs.Steps.{stepListed, entryListed};
 ghost use Rattle.writing.specs.Written.{rewriteOf};
-ghost use Rattle.pages.specs.Pages.{old, new, turnOf};
+ghost use Rattle.pages.specs.Pages.{old, new, tablesOf, turnOf};
 ghost use Rattle.doors.specs.Cell.{cellCount, feedCellCount};
 ghost use Rattle.doors.specs.Answers.{version, isFew, refusalOr, cellsOr, readCells, stepCells, entryCells, putRefusal, putOutput, putLength, cellsWritten, pagePosted};
 ghost use Rattle.doors.specs.Feeds.{isOver, feedRun, pageFed, feedCells};
@@ -34,10 +34,10 @@ use blocks::walk::read;
 use ledger::post::post;
 use octets::output::Written;
 use octets::refusal;
+use pages::forms::Form;
 use pages::load;
 use pages::store;
-use pages::to_new;
-use pages::to_old;
+use pages::turning::turn;
 use writing::block::rewrite;
 use writing::block::write;
 
@@ -197,6 +197,18 @@ pub extern "C" fn wear_rewrite(s: &[u8], out: &mut [u8], size: &mut [u64]) -> u3
     put_out(rewrite(s, out), size)
 }
 
+// A page of one form as a page of the other.
+fn turned_page(page: &[u8], from: Form, out: &mut [u8], to: Form, size: &mut [u64]) -> u32
+    ensures { λ r. ⌜ (r ≡ putRefusal (isFew 1 (now (size .entry))) (within (length (now (out .entry))) (turnOf (tablesOf from) (tablesOf to) (now (page .entry)))))
+        × (now (out .exit) ≡ putOutput (isFew 1 (now (size .entry))) (now (out .entry)) (within (length (now (out .entry))) (turnOf (tablesOf from) (tablesOf to) (now (page .entry)))))
+        × (now (size .exit) ≡ putLength (isFew 1 (now (size .entry))) (now (size .entry)) (within (length (now (out .entry))) (turnOf (tablesOf from) (tablesOf to) (now (page .entry))))) ⌝ }
+{
+    if size.len() < 1 {
+        return refusal::OUTPUT_TOO_SHORT as u32;
+    }
+    put_out(turn(page, from, out, to), size)
+}
+
 // An old page as a new one with all times unknown.
 #[no_mangle]
 pub extern "C" fn wear_page_to_new(page: &[u8], out: &mut [u8], size: &mut [u64]) -> u32
@@ -204,10 +216,7 @@ pub extern "C" fn wear_page_to_new(page: &[u8], out: &mut [u8], size: &mut [u64]
         × (now (out .exit) ≡ putOutput (isFew 1 (now (size .entry))) (now (out .entry)) (within (length (now (out .entry))) (turnOf old new (now (page .entry)))))
         × (now (size .exit) ≡ putLength (isFew 1 (now (size .entry))) (now (size .entry)) (within (length (now (out .entry))) (turnOf old new (now (page .entry))))) ⌝ }
 {
-    if size.len() < 1 {
-        return refusal::OUTPUT_TOO_SHORT as u32;
-    }
-    put_out(to_new(page, out), size)
+    turned_page(page, Form::Old, out, Form::New, size)
 }
 
 // A new page as an old one, without the times.
@@ -217,10 +226,7 @@ pub extern "C" fn wear_page_to_old(page: &[u8], out: &mut [u8], size: &mut [u64]
         × (now (out .exit) ≡ putOutput (isFew 1 (now (size .entry))) (now (out .entry)) (within (length (now (out .entry))) (turnOf new old (now (page .entry)))))
         × (now (size .exit) ≡ putLength (isFew 1 (now (size .entry))) (now (size .entry)) (within (length (now (out .entry))) (turnOf new old (now (page .entry))))) ⌝ }
 {
-    if size.len() < 1 {
-        return refusal::OUTPUT_TOO_SHORT as u32;
-    }
-    put_out(to_old(page, out), size)
+    turned_page(page, Form::New, out, Form::Old, size)
 }
 
 // A record of a block posted to the ledger of a page, and the ledger stored: load's refusal, post's, store's.

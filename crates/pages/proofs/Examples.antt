@@ -1,16 +1,15 @@
 -- Pages in octets (01 "Ledger", 02 §5), and a midnight between two pages (02 §4), computed; a wrong one is refused. Assumes nothing.
-use mathlib.Core.Bool.{true, false}
-use mathlib.Core.List.{List, [], _∷_, _++_}
+use mathlib.Core.Bool.{false}
+use mathlib.Core.List.{List, [], _∷_}
 use mathlib.Core.Path.{_≡_, refl}
 use Prim.Native.Nat.{ℕ, _+_, _*_}
 use native.Mathlib.Omega.{arith}
 use Rattle.octets.specs.Numbers.{number, octets}
-use Rattle.octets.specs.Outcomes.{no, puts}
 use Rattle.rows.specs.Rows.{Row, noTime, addUp, rowOf}
 use Rattle.rows.specs.Order.{upto}
 use Rattle.rows.specs.Posting.{Report, counts, names, newKeys, addEntry, addAll, passes, postRows, after}
 use Rattle.ledger.specs.Ledgers.{table}
-use Rattle.pages.specs.Pages.{old, new, headLong, rowLong, pageLength, starts, startsOf, twos, tables, pageOf, rowFrom, rowsIn, stand, headKeeps}
+use Rattle.pages.specs.Pages.{old, new, rowLong, pageLength, starts, startsOf, twos, tables, pageOf, rowFrom, rowsIn, stand, headKeeps}
 
 -- The heads: n, 8, 8 + 4n, 8 + 16n (01), and n, 10, 10 + 4n, 10 + 16n, 10 + 20n (02 §5)
 

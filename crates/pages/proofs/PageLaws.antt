@@ -2,7 +2,7 @@
 -- Assumes nothing.
 use mathlib.Core.Path.{_≡_, refl, sym, ap, ap₂, _∙_, subst}
 use mathlib.Core.Bool.{true, _&&_}
-use mathlib.Core.List.{List, [], _∷_, _++_, map, append-assoc, append-nil}
+use mathlib.Core.List.{List, [], _∷_, _++_, map, append-assoc}
 use Prim.Native.Nat.{ℕ, _+_, _*_, _≤_, _<_, _^_}
 use native.Mathlib.Nat.{add-mul, zero-mul}
 use native.Mathlib.Omega.{arith}
@@ -179,10 +179,25 @@ module _ (ts : List Table) (rows : List Row) (small : Each Small rows) where
 
 -- The rows of a page, stored
 
+-- the numbers of a head, one by one
+unfoldable pub Stand : List ℕ → ℕ → List ℕ → Type 0
+Stand s at [] = Unit {0}
+Stand s at (v ∷ vs) = (number 2 s at ≡ v) × Stand s (at + 2) vs
+
+pub stands : (s : List ℕ) (at : ℕ) (vs : List ℕ) → stand s at vs ≡ true → Stand s at vs
+unfolding stand Stand
+stands s at [] t = tt
+stands s at (v ∷ vs) t = let w = both (eqb (number 2 s at) v) (stand s (at + 2) vs) t in (eqb-true (number 2 s at) v (w .0), stands s (at + 2) vs (w .1))
+
+pub does-stand : (s : List ℕ) (at : ℕ) (vs : List ℕ) → Stand s at vs → stand s at vs ≡ true
+unfolding stand Stand
+does-stand s at [] w = refl
+does-stand s at (v ∷ vs) w = rw (eq-eqb (number 2 s at) v (w .0)) (does-stand s (at + 2) vs (w .1))
+
 -- what the tests on a head say
 pub record Head (ts : List Table) (s : List ℕ) : Type 0 where
   pub few : countIn s ≤ 256
-  pub stands : stand s 2 (startsOf ts (countIn s)) ≡ true
+  pub stands : Stand s 2 (startsOf ts (countIn s))
   pub long : length s ≡ pageLength ts (countIn s)
 
 pub head-says : (ts : List Table) (s : List ℕ) → headKeeps ts s ≡ true → Head ts s
@@ -191,7 +206,11 @@ head-says ts s h =
     let b = stand s 2 (startsOf ts (countIn s)) in
     let x = both (a && b) (eqb (length s) (pageLength ts (countIn s))) h in
     let y = both a b (x .0) in
-    record { few = leb-true (countIn s) 256 (y .0); stands = y .1; long = eqb-true (length s) (pageLength ts (countIn s)) (x .1) }
+    record { few = leb-true (countIn s) 256 (y .0); stands = stands s 2 (startsOf ts (countIn s)) (y .1); long = eqb-true (length s) (pageLength ts (countIn s)) (x .1) }
+
+pub head-so : (ts : List Table) (s : List ℕ) → countIn s ≤ 256 → Stand s 2 (startsOf ts (countIn s)) → length s ≡ pageLength ts (countIn s)
+    → headKeeps ts s ≡ true
+head-so ts s few w long = rw (le-leb _ _ few, does-stand s 2 (startsOf ts (countIn s)) w, eq-eqb _ _ long)
 
 pub part-octets : (t : Table) (s : List ℕ) (at : ℕ) (r : Row) → Octets s → at + rowWide t ≤ length s
     → rowOctets t (partAt t s at r) ≡ take (rowWide t) (drop at s)
@@ -199,14 +218,12 @@ part-octets columns.Keys s at r o h = octets-number 4 s at h o
 part-octets columns.Readings s at r o h = rw (octets-number 8 s at (omega arith) o, octets-number 4 s (at + 8) (omega arith) o) (parts s at 8 4)
 part-octets columns.Times s at r o h = octets-number 4 s at h o
 
-stand-put : (s : List ℕ) → Octets s → (vs : List ℕ) (at : ℕ) → at + 2 * length vs ≤ length s → stand s at vs ≡ true
-    → twos vs ≡ take (2 * length vs) (drop at s)
-unfolding stand twos
-stand-put s o [] at h t = refl
-stand-put s o (v ∷ vs) at h t =
-    let w = both (eqb (number 2 s at) v) (stand s (at + 2) vs) t in
+stand-put : (s : List ℕ) → Octets s → (vs : List ℕ) (at : ℕ) → at + 2 * length vs ≤ length s → Stand s at vs → twos vs ≡ take (2 * length vs) (drop at s)
+unfolding Stand twos
+stand-put s o [] at h w = refl
+stand-put s o (v ∷ vs) at h w =
     let e : 2 + 2 * length vs ≡ 2 * length (v ∷ vs) = omega arith in
-    let first : octets 2 v ≡ take 2 (drop at s) = ap (octets 2) (sym (eqb-true (number 2 s at) v (w .0))) ∙ octets-number 2 s at (omega arith) o in
+    let first : octets 2 v ≡ take 2 (drop at s) = ap (octets 2) (sym (w .0)) ∙ octets-number 2 s at (omega arith) o in
     rw (first, stand-put s o vs (at + 2) (omega arith) (w .1), ← e) (parts s at 2 (2 * length vs))
 
 -- rows whose tables have the octets of s where they lie

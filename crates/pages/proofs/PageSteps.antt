@@ -72,22 +72,19 @@ module _ (f : Form) (s : List ℕ) (n i : ℕ) where
   unfolding rowFrom
   time-new e t is = rw e is
 
+-- both forms have keys first, and readings behind them
+firsts : (f : Form) (s : List ℕ) (n i : ℕ) → let long = headLong (tablesOf f) in let r = rowAt (tablesOf f) s n i in
+    (r .key ≡ number 4 s (long + 4 * i)) × (r .life ≡ number 8 s (long + 4 * n + 12 * i)) × (r .reading ≡ number 4 s (long + 4 * n + 12 * i + 8))
+unfolding rowFrom
+firsts form.Old s n i = (ap (number 4 s) (omega arith), refl, refl)
+firsts form.New s n i = (ap (number 4 s) (omega arith), refl, refl)
+
 pub row-is : (f : Form) (s : List ℕ) (n i long k l r t : ℕ) → long ≡ headLong (tablesOf f) → k ≡ number 4 s (long + 4 * i)
     → l ≡ number 8 s (long + 4 * n + 12 * i) → r ≡ number 4 s (long + 4 * n + 12 * i + 8) → t ≡ rowAt (tablesOf f) s n i .time
     → _≡_ {A = Row} (record { key = k; life = l; reading = r; time = t }) (rowAt (tablesOf f) s n i)
-unfolding rowFrom
-row-is form.Old s n i long k l r t el ek em er et =
-    let z : 8 + 4 * i ≡ 8 + 0 * n + 4 * i = omega arith in
-    let kk : k ≡ number 4 s (8 + 0 * n + 4 * i) = rw (el, z) at ek in
-    let ll : l ≡ number 8 s (8 + 4 * n + 12 * i) = rw el at em in
-    let rr : r ≡ number 4 s (8 + 4 * n + 12 * i + 8) = rw el at er in
-    λ p. record { key = kk p; life = ll p; reading = rr p; time = et p }
-row-is form.New s n i long k l r t el ek em er et =
-    let z : 10 + 4 * i ≡ 10 + 0 * n + 4 * i = omega arith in
-    let kk : k ≡ number 4 s (10 + 0 * n + 4 * i) = rw (el, z) at ek in
-    let ll : l ≡ number 8 s (10 + 4 * n + 12 * i) = rw el at em in
-    let rr : r ≡ number 4 s (10 + 4 * n + 12 * i + 8) = rw el at er in
-    λ p. record { key = kk p; life = ll p; reading = rr p; time = et p }
+row-is f s n i long k l r t el ek em er et =
+    let w = firsts f s n i in
+    λ p. record { key = ((rw el at ek) ∙ sym (w .0)) p; life = ((rw el at em) ∙ sym (w .1)) p; reading = ((rw el at er) ∙ sym (w .2)) p; time = et p }
 
 -- Loading: the cells so far have the first rows of the page, and are empty behind them
 pub record Loaded (ts : List Table) (s : List ℕ) (n : ℕ) (cells : List ℕ) (i : ℕ) : Type 0 where

@@ -1,6 +1,6 @@
 -- A page stored and loaded: the theorems on pages of either form (01 "Ledger", 02 §5). Assumes nothing.
-use mathlib.Core.Path.{_≡_, refl, sym, ap, ap₂, _∙_, subst}
-use mathlib.Core.Bool.{true, _&&_}
+use mathlib.Core.Path.{_≡_, refl, sym, ap, _∙_, subst}
+use mathlib.Core.Bool.{true}
 use mathlib.Core.List.{List, [], _∷_, map, map-id}
 use Prim.Native.Nat.{ℕ, zero, suc, _≤_, _<_, _^_}
 use native.Mathlib.Omega.{arith}
@@ -22,9 +22,8 @@ use Rattle.pages.specs.Pages.{old, new, tablesOf, pageOf, rowAt, countIn
 use Rattle.pages.specs.declared.forms.Form.{Form}
 use Rattle.pages.specs.declared.forms.Form.the-variants as form
 use Rattle.pages.specs.declared.forms.Table.{Table}
-use Rattle.pages.proofs.PageLaws.{Small, small-in, withParts, shown, page-back, Head, head-says, page-rows}
+use Rattle.pages.proofs.PageLaws.{Small, small-in, withParts, shown, page-back, head-says, page-rows}
 use Rattle.pages.proofs.FormLaws.{form-fits, lies}
-use Rattle.pages.proofs.PageSteps.{load-kept}
 use Rattle.pages.proofs.PutSteps.{time-small, store-puts}
 
 -- What the rules and the widths hold of rows

@@ -24,8 +24,8 @@ use Rattle.ledger.specs.Ledgers.{rowIn, countOf, rowsOf, table, timeKeeps, keep
 use Rattle.ledger.specs.Steps.{Kept}
 use Rattle.ledger.proofs.RuleTests.{rules-few}
 use Rattle.ledger.proofs.CellLaws.{rows-many, kept-narrow}
-use Rattle.ledger.proofs.TableLaws.{listed-many, listed-more, length-table, table-laid}
-use Rattle.pages.specs.Pages.{rowOctets, rowWide, tablesOf, headLong, rowLong, pageLength, starts, startsOf, twos, tables, headOf, pageOf, storeOf}
+use Rattle.ledger.proofs.TableLaws.{listed-many, listed-more, table-laid}
+use Rattle.pages.specs.Pages.{rowOctets, rowWide, tablesOf, headLong, rowLong, pageLength, starts, twos, tables, headOf, pageOf, storeOf}
 use Rattle.pages.specs.declared.forms.Form.{Form}
 use Rattle.pages.specs.declared.forms.Table.{Table}
 use Rattle.pages.specs.declared.forms.Table.the-variants as columns

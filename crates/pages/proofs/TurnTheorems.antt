@@ -1,5 +1,5 @@
 -- A page turned into the other form and back (02 §5). Assumes nothing.
-use mathlib.Core.Path.{_≡_, refl, sym, ap, _∙_, subst}
+use mathlib.Core.Path.{_≡_, refl, sym, ap, _∙_}
 use mathlib.Core.Bool.{Bool, true, false}
 use mathlib.Core.List.{List, [], _∷_, map}
 use mathlib.Core.Logic.{_↔_}
@@ -7,17 +7,14 @@ use Prim.Native.Nat.{ℕ}
 use lib.ListN.{length, length-map}
 use Rattle.octets.specs.Choice.{pick}
 use Rattle.octets.specs.Numbers.{Octets}
-use Rattle.octets.specs.Outcomes.{Outcome, no, puts}
+use Rattle.octets.specs.Outcomes.{no, puts}
 use Rattle.octets.specs.Refusals.{rulesBroken}
 use Rattle.octets.proofs.Cases.{both}
 use Rattle.octets.proofs.Outcomes.{puts-same, not-puts}
-use Rattle.rows.specs.Rows.{Row, noTime}
-use Rattle.ledger.specs.Ledgers.{answer, cellsOf, keepsRules}
+use Rattle.rows.specs.Rows.{Row}
+use Rattle.ledger.specs.Ledgers.{keepsRules}
 use Rattle.ledger.specs.Steps.{Ruled}
-use Rattle.ledger.specs.declared.Answer.{Answer}
-use Rattle.ledger.proofs.CellLaws.{rows-back}
-use Rattle.ledger.proofs.RuleLaws.{kept-rules}
-use Rattle.pages.specs.Pages.{old, new, tablesOf, pageLength, pageOf, rowsIn, cellsIn, headKeeps, pageKeeps, loadOf, storeOf, turnOf, untimed, NoTimes}
+use Rattle.pages.specs.Pages.{old, new, tablesOf, pageLength, pageOf, rowsIn, cellsIn, headKeeps, pageKeeps, turnOf, untimed, NoTimes}
 use Rattle.pages.specs.declared.forms.Form.{Form}
 use Rattle.pages.specs.declared.forms.Table.{Table}
 use Rattle.pages.proofs.PageLaws.{shown, page-long}

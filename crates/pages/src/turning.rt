@@ -9,8 +9,8 @@ use crate::writing::store_form;
 use octets::output::Written;
 use octets::refusal;
 
-// Loads the page in its form, and stores it in the other.
-pub(crate) fn turn(page: &[u8], from: Form, out: &mut [u8], to: Form) -> Written
+// Loads the page in its form, and stores it in the other. For the next layer.
+pub fn turn(page: &[u8], from: Form, out: &mut [u8], to: Form) -> Written
     ensures { λ r. ⌜ (now (out .exit) ≡ outputOf (now (out .entry)) (within (length (now (out .entry))) (turnOf (tablesOf from) (tablesOf to) (now (page .entry)))))
         × (r ≡ answerOf (within (length (now (out .entry))) (turnOf (tablesOf from) (tablesOf to) (now (page .entry)))))
         × (listedWritten r ≡ outcomeListed (within (length (now (out .entry))) (turnOf (tablesOf from) (tablesOf to) (now (page .entry))))) ⌝ }

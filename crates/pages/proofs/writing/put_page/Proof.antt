@@ -6,70 +6,80 @@ use borrow.Author.Needs.{needs}
 use Rattle.pages.proofs.writing.put_page.Statement.{statement}
 use Rattle.pages.proofs.writing.put_page.Tie as tie
 
+-- where the rows were counted, the head measured and written, the keys and the readings written
+abbrev start : tie.After-count-of → tie.Start
+start n = n .before .before
+
+abbrev counted : tie.After-put-head → tie.After-count-of
+counted p = p .before .before .before
+
+abbrev headed : tie.After-put-table → tie.After-put-head
+headed k = k .before .before .before .before
+
+abbrev keyed : tie.After-put-table2 → tie.After-put-table
+keyed r = r .before .before .before .before
+
 put-head-requires : tie.Need-put-head-requires
 put-head-requires c κs =
     let n = c .before .before in
-    let z = n .before .before in
-    let f = z .args .form in
-    (omega (arith, n .count-of .ensures, z .pre .0 .few), omega (arith, z .pre .1, head-least f), omega (arith, z .pre .1))
+    let z = start n in
+    (omega (arith, n .count-of .ensures, z .pre .0 .few), omega (arith, z .pre .1, head-least (z .args .form)), omega (arith, z .pre .1))
 
 put-table-requires : tie.Need-put-table-requires
 put-table-requires c κs =
     let p = c .before .before .before in
-    let h = p .before .before in
-    let n = h .before in
-    let z = n .before .before in
-    (z .pre .0, steps.keys-room (z .args .form) (z .args .cells .now) _ _ (n .count-of .ensures) (h .head-long .ensures) _ (z .pre .1) _ (p .put-head .ensures) _ (search needs))
+    let n = counted p in
+    let z = start n in (
+      z .pre .0,
+      steps.keys-room (z .args .form) (z .args .cells .now) _ _ (n .count-of .ensures) (p .before .before .head-long .ensures) _ (z .pre .1)
+          _ (p .put-head .ensures) _ (search needs),
+    )
 
 put-table-requires-2 : tie.Need-put-table-requires-2
 put-table-requires-2 c κs =
     let k = c .before .before .before in
-    let p = k .before .before .before .before in
-    let h = p .before .before in
-    let n = h .before in
-    let z = n .before .before in (
+    let p = headed k in
+    let n = counted p in
+    let z = start n in (
       z .pre .0,
-      steps.readings-room (z .args .form) (z .args .cells .now) _ _ (n .count-of .ensures) (h .head-long .ensures) _ (z .pre .1) _ (p .put-head .ensures)
-          _ _ (k .put-table .ensures) (search needs) _ (search needs),
+      steps.readings-room (z .args .form) (z .args .cells .now) _ _ (n .count-of .ensures) (p .before .before .head-long .ensures) _ (z .pre .1)
+          _ (p .put-head .ensures) _ _ (k .put-table .ensures) (search needs) _ (search needs),
     )
 
 put-table-requires-3 : tie.Need-put-table-requires-3
 put-table-requires-3 c κs =
     let e = c .before in
     let r = e .before .before .before .before in
-    let k = r .before .before .before .before in
-    let p = k .before .before .before .before in
-    let h = p .before .before in
-    let n = h .before in
-    let z = n .before .before in (
+    let p = headed (keyed r) in
+    let n = counted p in
+    let z = start n in (
       z .pre .0,
-      steps.times-room (z .args .form) (z .args .cells .now) _ _ (n .count-of .ensures) (h .head-long .ensures) _ (z .pre .1) _ (p .put-head .ensures)
-          _ _ (k .put-table .ensures) (search needs) _ _ (r .put-table2 .ensures) (search needs) (e .enum-told2 .given .1) _ (search needs),
+      steps.times-room (z .args .form) (z .args .cells .now) _ _ (n .count-of .ensures) (p .before .before .head-long .ensures) _ (z .pre .1)
+          _ (p .put-head .ensures) _ _ (keyed r .put-table .ensures) (search needs) _ _ (r .put-table2 .ensures) (search needs)
+          (e .enum-told2 .given .1) _ (search needs),
     )
 
 returns : tie.Need-returns
 returns c =
     let r = c .before .before .before .before in
-    let k = r .before .before .before .before in
-    let p = k .before .before .before .before in
-    let h = p .before .before in
-    let n = h .before in
-    let z = n .before .before in
-    steps.page-old (z .args .form) (z .args .cells .now) _ _ (n .count-of .ensures) (h .head-long .ensures) _ (z .pre .1) _ (p .put-head .ensures)
-    _ _ (k .put-table .ensures) (search needs) _ _ (r .put-table2 .ensures) (search needs) (c .enum-told .given .1)
+    let p = headed (keyed r) in
+    let n = counted p in
+    let z = start n in
+    steps.page-old (z .args .form) (z .args .cells .now) _ _ (n .count-of .ensures) (p .before .before .head-long .ensures) _ (z .pre .1)
+    _ (p .put-head .ensures) _ _ (keyed r .put-table .ensures) (search needs) _ _ (r .put-table2 .ensures) (search needs)
+    (c .enum-told .given .1)
 
 returns-2 : tie.Need-returns-2
 returns-2 c =
     let t = c .before .before in
     let e = t .before .before in
     let r = e .before .before .before .before in
-    let k = r .before .before .before .before in
-    let p = k .before .before .before .before in
-    let h = p .before .before in
-    let n = h .before in
-    let z = n .before .before in
-    steps.page-new (z .args .form) (z .args .cells .now) _ _ (n .count-of .ensures) (h .head-long .ensures) _ (z .pre .1) _ (p .put-head .ensures)
-    _ _ (k .put-table .ensures) (search needs) _ _ (r .put-table2 .ensures) (search needs) (e .enum-told2 .given .1) _ _ (t .put-table3 .ensures) (search needs)
+    let p = headed (keyed r) in
+    let n = counted p in
+    let z = start n in
+    steps.page-new (z .args .form) (z .args .cells .now) _ _ (n .count-of .ensures) (p .before .before .head-long .ensures) _ (z .pre .1)
+    _ (p .put-head .ensures) _ _ (keyed r .put-table .ensures) (search needs) _ _ (r .put-table2 .ensures) (search needs)
+    (e .enum-told2 .given .1) _ _ (t .put-table3 .ensures) (search needs)
 
 pub put-page-spec : {M : Type 1} → statement M
 put-page-spec =
