@@ -1,16 +1,16 @@
 -- The two forms: what holds of each, by its tables. Assumes nothing.
-use mathlib.Core.Path.{_≡_, refl}
+use mathlib.Core.Path.{_≡_}
 use mathlib.Core.List.{List}
 use Prim.Native.Nat.{ℕ, _+_, _*_, _≤_, _<_, _^_}
 use native.Mathlib.Omega.{arith}
 use lib.ListN.{length}
 use Rattle.octets.specs.Numbers.{Octets}
-use Rattle.rows.specs.Rows.{Row, newRow}
-use Rattle.pages.specs.Pages.{old, new, tablesOf, headLong, rowLong, pageLength, rowFrom, rowAt, untimed}
+use Rattle.rows.specs.Rows.{newRow}
+use Rattle.pages.specs.Pages.{tablesOf, headLong, rowLong, pageLength, rowFrom, rowAt}
 use Rattle.pages.specs.declared.forms.Form.{Form}
 use Rattle.pages.specs.declared.forms.Form.the-variants as form
 use Rattle.pages.specs.declared.forms.Table.{Table}
-use Rattle.pages.proofs.PageLaws.{withParts, shown, part-octets, Lie}
+use Rattle.pages.proofs.PageLaws.{part-octets, Lie}
 
 -- the length of a page, by its form
 module _ (f : Form) (n : ℕ) where
@@ -51,12 +51,3 @@ lies form.New s n o l = (
   λ i h. part-octets Table.Keys s _ (newRow 0) o (omega arith),
   (λ i h. part-octets Table.Readings s _ (newRow 0) o (omega arith), (λ i h. part-octets Table.Times s _ (newRow 0) o (omega arith), tt)),
 )
-
--- an old page shows a row without its time, a new one all of it
-pub shown-old : (r : Row) → shown old r ≡ untimed r
-unfolding withParts
-shown-old r = refl
-
-pub shown-new : (r : Row) → shown new r ≡ r
-unfolding withParts
-shown-new r = refl
