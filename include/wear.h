@@ -3,7 +3,7 @@
  * Every function of the library but wear_version answers a refusal number, 0 where it accepts. A slice is a pointer and a length; the pointer may be NULL
  * exactly where the length is 0. Nothing outside the slices is read or written, and nothing is kept. Results go into 64-bit cells that the
  * caller lends; where fewer cells are lent than a function needs, of a record too, the answer is 12 before all else, and nothing is
- * changed. Cells past those that are needed stay.
+ * changed. Cells past those that are needed stay. On a refusal no octet of an output changes; octets past those written stay.
  *
  * No lent slice that is written may overlap another.
  */
@@ -143,11 +143,13 @@ uint32_t wear_rewrite(const uint8_t *octets, size_t n, uint8_t *out, size_t m, u
 #define WEAR_FRESH_OCTETS 10
 
 /* An old page, as the versions before 3 gave it, has no times and no offset of them: its header is n, 8, 8 + 4n and the length, 8 + 16n. A
- * page that was kept from one of them has to be turned with wear_page_to_new first: the other functions refuse it with 16. */
+ * page that was kept from one of them, a fresh one too, has to be turned with wear_page_to_new first: the other functions refuse it with 16.
+ * No octets are a page of both forms: octets 2 and 3 are 0, 8 in an old page and 0, 10 in a new one. */
 #define WEAR_OLD_PAGE_MOST (8 + 16 * 256)
 
-/* Turns an old page into a new one, with all times unknown. length[0] becomes the octets of the page, 0 on refusal: 16 for any fault of the
- * page given, then 12. */
+/* Turns an old page into a new one, with all times unknown: of a midnight before a counter's next count since midnight only a smaller count
+ * tells. length[0] becomes the octets of the page, 0 on refusal: 16 for any fault of the page given, then 12 where the output is shorter than
+ * the new page, which WEAR_PAGE_MOST never is. The output may not be the page's own octets. */
 uint32_t wear_page_to_new(const uint8_t *page, size_t n, uint8_t *out, size_t m, uint64_t *length, size_t one);
 
 /* Turns a new page into an old one by leaving out the times. length[0] and the refusals are as above. Old to new to old gives the same
@@ -156,7 +158,7 @@ uint32_t wear_page_to_old(const uint8_t *page, size_t n, uint8_t *out, size_t m,
 
 /* Posts record `number`, from 0, of a block to the ledger of a page, and stores the ledger as a page. length[0] becomes the octets of the
  * page, 0 on refusal: the page's 16, then the block's and the post's, then 12. Each call reads the whole block and judges the ledger's 256
- * places twice, so that posting all records of a feed with it is quadratic in a block's records: use wear_feed for that. */
+ * places three times, so that posting all records of a feed with it is quadratic in a block's records: use wear_feed for that. */
 uint32_t wear_post(const uint8_t *page, size_t n, const uint8_t *octets, size_t m, uint64_t number, uint8_t *out, size_t p,
                    uint64_t *length, size_t one);
 

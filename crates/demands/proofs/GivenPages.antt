@@ -5,15 +5,26 @@ use mathlib.Core.Logic.{_↔_, _⊎_, inl, inr}
 use mathlib.Core.Path.{_≡_, sym, ap, _∙_}
 use Prim.Native.Nat.{ℕ, _+_, _*_, _≤_}
 use native.Mathlib.Omega.{arith}
+use borrow.Author.Tests.{leb-true, eqb-true}
+use lib.Dec.{leb, eqb}
 use lib.ListN.{length}
+use Rattle.octets.specs.Numbers.{Octets}
 use Rattle.octets.specs.Outcomes.{no, puts}
 use Rattle.octets.specs.Refusals.{rulesBroken}
 use Rattle.octets.specs.declared.output.Written.{Written}
 use Rattle.octets.proofs.Cases.{test, choose}
 use Rattle.octets.proofs.Outcomes.{no-same, puts-same, not-puts}
+use Rattle.rows.specs.Rows.{noTime}
+use Rattle.rows.specs.Posting.{Each}
+use Rattle.rows.proofs.Cases.{either}
+use Rattle.blocks.specs.Statistics.{latestTime}
+use Rattle.ledger.specs.Steps.{Narrow}
+use Rattle.ledger.proofs.RowPlaces.{each-map}
 use Rattle.ledger.specs.Ledgers.{answer, rowsOf, cellsOf, keepsRules}
 use Rattle.pages.specs.Pages.{old, new, rowLong, starts, pageOf, storeOf, countIn, rowsIn, cellsIn, headKeeps, loadOf, turnOf}
+use Rattle.pages.specs.declared.forms.Form.{Form}
 use Rattle.pages.specs.declared.forms.Table.{Table}
+use Rattle.pages.proofs.PageTheorems.{page-ruled}
 use Rattle.ledger.specs.declared.Answer.{Answer}
 use Rattle.ledger.specs.declared.Ledger.{Ledger}
 use Rattle.pages.proofs.PageLaws.{Stand, head-says, head-so}
@@ -47,6 +58,13 @@ new-head-given s =
 -- No octets have the head of both.
 pub not-both : (s : List ℕ) → OldHead s → NewHead s → ⊥
 not-both s o n = let e : _≡_ {A = ℕ} 8 10 = sym (o .keys) ∙ n .keys in omega arith
+
+-- A time on a page is at most 11,059,327, or all ones; octets with another one are no page.
+pub page-times : (s : List ℕ) → Octets s → Page new s → Each (λ r. (r .time ≤ 11059327) ⊎ (r .time ≡ 0xFFFFFFFF)) (rowsIn new s)
+page-times s o p =
+    each-map Narrow (λ r. (r .time ≤ 11059327) ⊎ (r .time ≡ 0xFFFFFFFF))
+    (λ r n. either (leb (r .time) latestTime) (eqb (r .time) noTime) (n .2) (λ t. inl (leb-true _ _ t)) (λ t. inr (eqb-true _ _ t)))
+    (rowsIn new s) (page-ruled Form.New s o (rw (p .0, p .1)) .1)
 
 -- Loading
 

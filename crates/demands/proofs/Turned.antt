@@ -1,5 +1,5 @@
 -- A page turned into the other form and turned back, by the public operations (02 §5). Assumes nothing.
-use mathlib.Core.List.{List, map}
+use mathlib.Core.List.{List, [], _∷_, map}
 use mathlib.Core.Logic.{_↔_}
 use mathlib.Core.Path.{_≡_, refl, sym, ap, _∙_}
 use Prim.Native.Nat.{ℕ, _≤_}
@@ -7,13 +7,13 @@ use borrow.Author.Tests.{le-ltb}
 use lib.ListN.{length, take, drop}
 use lib.Seq.{take-at}
 use Rattle.octets.specs.Numbers.{Octets, laid}
-use Rattle.octets.specs.Outcomes.{Outcome, puts, within, answerOf, outputOf}
+use Rattle.octets.specs.Outcomes.{Outcome, no, puts, within, answerOf, outputOf, listedWritten, outcomeListed}
 use Rattle.octets.specs.declared.output.Written.{Written}
 use Rattle.octets.proofs.Outcomes.{puts-same, written-laid}
 use Rattle.pages.specs.Pages.{old, new, pageOf, rowsIn, turnOf, untimed, NoTimes}
 use Rattle.pages.specs.declared.forms.Table.{Table}
 use Rattle.pages.proofs.TurnTheorems.{old-new-old, new-old-new, untimed-back, turned-long}
-use Rattle.demands.specs.Contracts.{Turns}
+use Rattle.demands.specs.Contracts.{Turns, WearTurns}
 
 -- octets for which there is room go out
 goes-out : (x : Outcome) (xs l out : List ℕ) (r : Written) → x ≡ puts xs → length xs ≤ length l
@@ -54,3 +54,17 @@ new-there-and-back s okay o out n h o' out' r room k =
         λ z. ap (λ m. take m out') (sym long) ∙ w .1 ∙ puts-same (sym is ∙ same .1 z),
       ),
     )
+
+-- A door turns as the operation does: what the operation answers, in the refusal and in the cell of the length.
+listed : (x : Outcome) → listedWritten (answerOf x) ≡ outcomeListed x
+listed (no n) = refl
+listed (puts xs) = refl
+
+pub at-the-door : (from to : List Table) (page l size out after : List ℕ) (r : ℕ) → WearTurns from to page l size out after r → 1 ≤ length size
+    → let w = answerOf (within (length l) (turnOf from to page)) in
+    Turns from to page l out w × (r ≡ listedWritten w .refusal) × (after ≡ laid size 0 (listedWritten w .length ∷ []))
+at-the-door from to page l size out after r h enough =
+    let x = within (length l) (turnOf from to page) in
+    let k : (r ≡ outcomeListed x .refusal) × (out ≡ outputOf l x) × (after ≡ laid size 0 (outcomeListed x .length ∷ [])) = rw (le-ltb (length size) 1 enough) at h in
+    let s = sym (listed x) in
+    ((k .1, refl, listed x), k .0 ∙ ap (λ y. y .refusal) s, k .2 ∙ ap (λ y. laid size 0 (y .length ∷ [])) s)

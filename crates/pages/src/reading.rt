@@ -23,7 +23,7 @@ use octets::read4;
 use octets::read8;
 use octets::refusal;
 
-// Whether a page's head is that of its row count, and its length too. The times begin where an old page ends.
+// Whether a page's head is that of its row count, and its length too. The number at 6 is where the readings end: there the times begin, or an old page ends.
 fn is_headed(page: &[u8], form: Form) -> bool
     ensures { λ r. ⌜ r ≡ headKeeps (tablesOf form) (now (page .entry)) ⌝ }
 {

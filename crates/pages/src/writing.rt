@@ -53,7 +53,7 @@ fn put_table(out: &mut [u8], at: usize, which: Table, cells: &[u64; CELLS])
     }
 }
 
-// Writes the head of a page of n rows. The times begin where an old page ends.
+// Writes the head of a page of n rows. Where the readings end the times begin, or an old page ends.
 fn put_head(out: &mut [u8], form: Form, n: usize)
     requires { ⌜ (n ≤ 256) × (8 ≤ length (now out)) × (headLong (tablesOf form) ≤ length (now out)) ⌝ }
     ensures { λ _. ⌜ now (out .exit) ≡ laid (now (out .entry)) 0 (headOf (tablesOf form) n) ⌝ }

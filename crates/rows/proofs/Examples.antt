@@ -68,10 +68,10 @@ same-time : after addUp [] (p8 (clock 12) 0 100 ∷ p8 (clock 12) 0 150 ∷ p8 (
 unfolding addUp addEntry addAll rowOf names newKeys passes postRows after
 same-time = refl
 
--- a row whose time is not known, as loaded from a page: an earlier time is not seen, and is known from then on
-from-page : after addUp (row 0x01021204 100 100 noTime ∷ []) (p8 (clock 12) 0 150 ∷ []) ≡ row 0x01021204 150 150 (clock 12) ∷ []
+-- a row whose time is not known, as from an old page: an earlier time is not seen, and is known from then on
+from-old-page : after addUp (row 0x01021204 100 100 noTime ∷ []) (p8 (clock 12) 0 150 ∷ []) ≡ row 0x01021204 150 150 (clock 12) ∷ []
 unfolding addUp addEntry addAll rowOf names newKeys passes postRows after
-from-page = refl
+from-old-page = refl
 
 -- one TYPE twice in a report, at an earlier time: the first entry finds the midnight, and the second is at its own time
 twice-early : after addUp (row 0x01021204 100 100 (clock 20) ∷ [])
