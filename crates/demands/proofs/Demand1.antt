@@ -1,7 +1,7 @@
 -- Demand 1: a refusal leaves the output and the ledger as they stood. That an operation answers at all, for every input, is its contract: none has a
 -- `requires`. That what breaks a rule gets the number of its first fault is in the files Given*.antt. Assumes nothing.
-use mathlib.Core.Bool.{true}
-use mathlib.Core.List.{List}
+use mathlib.Core.Bool.{Bool, true, false}
+use mathlib.Core.List.{List, [], _∷_}
 use mathlib.Core.Path.{_≡_, ap, sym, _∙_}
 use Prim.Native.Nat.{ℕ, _≤_, _<_}
 use borrow.Author.Tests.{lt-ltb, le-ltb}
@@ -9,12 +9,12 @@ use lib.ListN.{length, take, drop, replicate}
 use lib.Seq.{take-at}
 use Rattle.octets.specs.Numbers.{Octets, laid}
 use Rattle.octets.specs.Outcomes.{Outcome, no, puts, within, outputOf, outcomeListed}
-use Rattle.octets.specs.Refusals.{rulesBroken, outputTooShort}
+use Rattle.octets.specs.Refusals.{outputTooShort}
 use Rattle.blocks.specs.declared.record.Record.{Record}
 use Rattle.writing.specs.Written.{writeOf, rewriteOf}
 use Rattle.octets.specs.declared.output.Written.{Written}
-use Rattle.ledger.specs.Ledgers.{answer, rowsOf, keepsRules, Held}
-use Rattle.pages.specs.Pages.{new, pageOf, storeOf, loadOf, turnOf}
+use Rattle.ledger.specs.Ledgers.{answer, Held}
+use Rattle.pages.specs.Pages.{new, storeOf, loadOf, turnOf}
 use Rattle.pages.specs.declared.forms.Form.{Form}
 use Rattle.pages.specs.declared.forms.Table.{Table}
 use Rattle.ledger.specs.declared.Answer.{Answer}
@@ -24,9 +24,10 @@ use Rattle.pages.proofs.PageTheorems.{store-load, load-store}
 use Rattle.ledger.proofs.PostTheorems.{posted-same}
 use Rattle.doors.specs.Cell.{feedCellCount}
 use Rattle.doors.specs.Feeds.{isOver, feedRun, pageFed, feedCells}
-use Rattle.demands.specs.Contracts.{Writes, Rewrites, Posts, Loads, Stores, Turns, WearFeeds}
-use Rattle.octets.proofs.Outcomes.{puts-same, not-puts, refused-same, written-laid}
-use Rattle.octets.proofs.Cases.{test}
+use Rattle.demands.specs.Contracts.{Writes, Rewrites, Posts, Loads, Stores, Turns, WearFeeds, PutsOut}
+use Rattle.octets.proofs.Outcomes.{refused-same, written-laid}
+use Rattle.demands.proofs.GivenOutputs.{goes-out}
+use Rattle.demands.proofs.GivenPages.{store-puts}
 
 -- A refusal leaves the output as it stood.
 pub refused-writing : (s : List ℕ) (t : Record) (l out : List ℕ) (n : ℕ) → Writes s t l out (Written.Refused n) → out ≡ l
@@ -40,6 +41,19 @@ refused-storing l o out n h = refused-same (storeOf new (l .cells)) o out n (h .
 
 pub refused-turning : (from to : List Table) (s o out : List ℕ) (n : ℕ) → Turns from to s o out (Written.Refused n) → out ≡ o
 refused-turning from to s o out n h = refused-same (turnOf from to s) o out n (h .0) (h .1)
+
+-- A refused door that puts out leaves the output as it stood, and a length of 0; with fewer cells than it needs the answer is 12, and nothing is changed.
+module _ (few : Bool) (x : Outcome) (l size out after : List ℕ) (r : ℕ) (h : PutsOut few x l size out after r) where
+  pub refused-putting : few ≡ false → (r ≡ 0 → ⊥) → (out ≡ l) × (after ≡ laid size 0 (0 ∷ []))
+  refused-putting enough not-0 = go (within (length l) x) (rw enough at h)
+    where
+      go : (y : Outcome) → (r ≡ outcomeListed y .refusal) × (out ≡ outputOf l y) × (after ≡ laid size 0 (outcomeListed y .length ∷ []))
+          → (out ≡ l) × (after ≡ laid size 0 (0 ∷ []))
+      go (no n) w = (w .1, w .2)
+      go (puts xs) w = absurd (not-0 (w .0))
+
+  pub few-putting : few ≡ true → (r ≡ outputTooShort) × (out ≡ l) × (after ≡ size)
+  few-putting e = rw e at h
 
 -- A refused post gives the ledger back unchanged, whichever entry refused it.
 pub refused-posting : (l : Ledger) → Held (l .cells) → (s : List ℕ) (k n : ℕ) (m : Ledger) → Posts l s k (answer n (m .cells)) → (n ≡ 0 → ⊥)
@@ -60,24 +74,16 @@ module _ (page s : List ℕ) (more : ℕ) (l cells out after : List ℕ) (r : �
   pub few-feeding : length cells < feedCellCount → (r ≡ outputTooShort) × (out ≡ l) × (after ≡ cells)
   few-feeding few = rw (lt-ltb (length cells) feedCellCount few) at h
 
-store-page : (l : Ledger) (xs : List ℕ) → storeOf new (l .cells) ≡ puts xs → (keepsRules (l .cells) ≡ true) × (xs ≡ pageOf new (rowsOf (l .cells)))
-unfolding storeOf
-store-page l xs h =
-    test (keepsRules (l .cells)) (λ t. (t, puts-same (sym h ∙ rw t)))
-    (λ f. absurd (not-puts {n = rulesBroken} {xs = xs} (rw f at h)))
-
 -- Load after store gives the ledger back, with its times: of the n octets that were stored;
 pub stored-loaded : (l : Ledger) → Held (l .cells) → (o out : List ℕ) (n : ℕ) → Stores l o out (Written.Octets n)
     → (r : Answer) → Loads (take n out) r → r ≡ answer 0 (l .cells)
 stored-loaded l held o out n h r e =
     let w = written-laid (storeOf new (l .cells)) o out n (h .0) (h .1) in
-    let p = store-page l (w .xs) (w .is) in
-    e ∙ ap (loadOf new) (ap (take n) (w .same) ∙ take-at (w .xs) (drop n o) n (sym (w .long)) ∙ p .1) ∙ store-load (l .cells) held (p .0)
+    let p = store-puts l (w .xs) .0 (w .is) in
+    e ∙ ap (loadOf new) (ap (take n) (w .same) ∙ take-at (w .xs) (drop n o) n (sym (w .long)) ∙ sym (p .1)) ∙ store-load (l .cells) held (p .0)
 
--- and store after load the octets.
+-- and store after load the octets, wherever there is room for them.
 pub loaded-stored : (s : List ℕ) → Octets s → (l : Ledger) → Loads s (answer 0 (l .cells))
-    → (o out : List ℕ) (n : ℕ) → Stores l o out (Written.Octets n) → take n out ≡ s
-loaded-stored s okay l h o out n e =
-    let w = written-laid (storeOf new (l .cells)) o out n (e .0) (e .1) in
-    let same : w .xs ≡ s = puts-same (sym (w .is) ∙ load-store Form.New s okay (l .cells) (sym h)) in
-    ap (take n) (w .same) ∙ take-at (w .xs) (drop n o) n (sym (w .long)) ∙ same
+    → (o out : List ℕ) (r : Written) → length s ≤ length o → Stores l o out r → (r ≡ Written.Octets (length s)) × (take (length s) out ≡ s)
+loaded-stored s okay l h o out r room k =
+    goes-out (storeOf new (l .cells)) s o out r (load-store Form.New s okay (l .cells) (sym h)) room (k .0) (k .1)

@@ -7,7 +7,8 @@ use Prim.Native.Nat.{ℕ, _≤_}
 use native.Mathlib.Omega.{arith}
 use borrow.Author.Tests.{ltb-true, ltb-false, le-ltb}
 use lib.Dec.{ltb}
-use lib.ListN.{length}
+use lib.ListN.{length, take}
+use lib.Seq.{take-at}
 use Rattle.octets.specs.Numbers.{laid}
 use Rattle.octets.specs.Outcomes.{Outcome, no, puts, within, answerOf, outputOf, outcomeListed}
 use Rattle.octets.specs.declared.output.Written.{Written}
@@ -75,3 +76,12 @@ module _ (x : Outcome) (Fault : ℕ → Type 0) (Fine : Type 0) (ys : List ℕ) 
 
     pub number-written : (Fault 0 → ⊥) → (r ≡ 0) ↔ (Fine × (length ys ≤ length l))
     number-written none = (λ e. to-fine none x refl (sym h ∙ e), λ w. h ∙ ap (λ y. outcomeListed y .refusal) (within-puts (w .0) (w .1)))
+
+-- octets for which there is room go out
+pub goes-out : (x : Outcome) (xs l out : List ℕ) (r : Written) → x ≡ puts xs → length xs ≤ length l
+    → out ≡ outputOf l (within (length l) x) → r ≡ answerOf (within (length l) x) → (r ≡ Written.Octets (length xs)) × (take (length xs) out ≡ xs)
+unfolding laid
+goes-out x xs l out r e room o a =
+    let f = le-ltb (length l) (length xs) room in
+    let put : out ≡ laid l 0 xs = rw (e, f) at o in
+    (rw (e, f) at a, ap (take (length xs)) put ∙ take-at xs _ (length xs) refl)

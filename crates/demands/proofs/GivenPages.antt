@@ -2,7 +2,7 @@
 use mathlib.Core.Bool.{true, false, false≢true}
 use mathlib.Core.List.{List, []}
 use mathlib.Core.Logic.{_↔_, _⊎_, inl, inr}
-use mathlib.Core.Path.{_≡_, sym, ap, _∙_}
+use mathlib.Core.Path.{_≡_, refl, sym, ap, _∙_}
 use Prim.Native.Nat.{ℕ, _+_, _*_, _≤_}
 use native.Mathlib.Omega.{arith}
 use borrow.Author.Tests.{leb-true, eqb-true}
@@ -29,6 +29,7 @@ use Rattle.ledger.specs.declared.Answer.{Answer}
 use Rattle.ledger.specs.declared.Ledger.{Ledger}
 use Rattle.pages.proofs.PageLaws.{Stand, head-says, head-so}
 use Rattle.demands.specs.Contracts.{Loads, Stores, Turns}
+use Rattle.demands.specs.Given.{own}
 use Rattle.demands.specs.GivenPages.{OldHead, NewHead, Page, NoPage, StoreFault, TurnFault}
 use Rattle.demands.proofs.GivenOutputs.{output-given, output-written}
 
@@ -58,6 +59,12 @@ new-head-given s =
 -- No octets have the head of both.
 pub not-both : (s : List ℕ) → OldHead s → NewHead s → ⊥
 not-both s o n = let e : _≡_ {A = ℕ} 8 10 = sym (o .keys) ∙ n .keys in omega arith
+
+not-new : (s : List ℕ) → headKeeps old s ≡ true → headKeeps new s ≡ false
+not-new s o = test (headKeeps new s) (λ t. absurd (not-both s (old-head-given s .0 o) (new-head-given s .0 t))) (λ f. f)
+
+not-old : (s : List ℕ) → headKeeps new s ≡ true → headKeeps old s ≡ false
+not-old s n = test (headKeeps old s) (λ t. absurd (not-both s (old-head-given s .0 t) (new-head-given s .0 n))) (λ f. f)
 
 -- A time on a page is at most 11,059,327, or all ones; octets with another one are no page.
 pub page-times : (s : List ℕ) → Octets s → Page new s → Each (λ r. (r .time ≤ 11059327) ⊎ (r .time ≡ 0xFFFFFFFF)) (rowsIn new s)
@@ -104,6 +111,10 @@ module _ (s : List ℕ) (r : Answer) (h : Loads s r) where
   pub load-ledger : Page new s → r ≡ answer 0 (cellsIn new s)
   load-ledger p = h ∙ load-page new s p
 
+  -- "a page in the old form gets 16"
+  pub load-old : headKeeps old s ≡ true → r .refusal ≡ rulesBroken
+  load-old o = load-given-16 .1 (inl (not-new s o))
+
   -- no other number answers a load
   pub load-refusals : (r .refusal ≡ 0) ⊎ (r .refusal ≡ rulesBroken)
   load-refusals = page-or-not new s (λ p. inl (load-given-0 .1 p)) (λ w. inr (load-given-16 .1 w))
@@ -118,7 +129,7 @@ module _ (l : Ledger) where
       (λ t. (λ e. absurd (not-puts (sym e)), λ w. absurd (false≢true (sym (w .0) ∙ t))))
       (λ f. (λ e. (f, sym (no-same e)), λ w. ap no (sym (w .1))))
 
-  store-puts : (xs : List ℕ) → (storeOf new (l .cells) ≡ puts xs) ↔ ((keepsRules (l .cells) ≡ true) × (pageOf new (rowsOf (l .cells)) ≡ xs))
+  pub store-puts : (xs : List ℕ) → (storeOf new (l .cells) ≡ puts xs) ↔ ((keepsRules (l .cells) ≡ true) × (pageOf new (rowsOf (l .cells)) ≡ xs))
   unfolding storeOf
   store-puts xs =
       choose (λ x. (x ≡ puts xs) ↔ ((keepsRules (l .cells) ≡ true) × (pageOf new (rowsOf (l .cells)) ≡ xs))) (keepsRules (l .cells))
@@ -168,3 +179,10 @@ module _ (from to : List Table) (s : List ℕ) where
     pub turn-written : (r ≡ Written.Octets n)
         ↔ (Page from s × (length (pageOf to (rowsIn from s)) ≤ length o) × (n ≡ length (pageOf to (rowsIn from s))))
     turn-written = output-written (turnOf from to s) _ _ (pageOf to (rowsIn from s)) turn-no turn-puts o n r (h .1)
+
+-- A new page is not turned into a new one, nor an old one into an old one.
+pub not-turned-new : (s o out : List ℕ) (r : Written) → Turns old new s o out r → headKeeps new s ≡ true → r ≡ Written.Refused rulesBroken
+not-turned-new s o out r h n = turn-given old new s o out rulesBroken r h .1 (own (inl (not-old s n), refl))
+
+pub not-turned-old : (s o out : List ℕ) (r : Written) → Turns new old s o out r → headKeeps old s ≡ true → r ≡ Written.Refused rulesBroken
+not-turned-old s o out r h n = turn-given new old s o out rulesBroken r h .1 (own (inl (not-new s n), refl))

@@ -14,6 +14,8 @@ pub mod GivenOutputs
 pub mod GivenItems
 pub mod GivenWriting
 pub mod GivenPages
+pub mod PostedPages
 pub mod Turned
+pub mod TurnedExamples
 pub mod GivenFeeds
 pub mod Pieces

@@ -1,7 +1,7 @@
 -- A page turned into the other form and turned back, by the public operations (02 §5). Assumes nothing.
 use mathlib.Core.List.{List, [], _∷_, map}
 use mathlib.Core.Logic.{_↔_}
-use mathlib.Core.Path.{_≡_, refl, sym, ap, _∙_}
+use mathlib.Core.Path.{_≡_, refl, sym, ap, _∙_, subst}
 use Prim.Native.Nat.{ℕ, _≤_}
 use borrow.Author.Tests.{le-ltb}
 use lib.ListN.{length, take, drop}
@@ -12,23 +12,27 @@ use Rattle.octets.specs.declared.output.Written.{Written}
 use Rattle.octets.proofs.Outcomes.{puts-same, written-laid}
 use Rattle.pages.specs.Pages.{old, new, pageOf, rowsIn, turnOf, untimed, NoTimes}
 use Rattle.pages.specs.declared.forms.Table.{Table}
-use Rattle.pages.proofs.TurnTheorems.{old-new-old, new-old-new, untimed-back, turned-long}
+use Rattle.pages.proofs.TurnTheorems.{rows-new, rows-old, old-unknown, old-new-old, new-old-new, untimed-back, turned-long}
 use Rattle.demands.specs.Contracts.{Turns, WearTurns}
-
--- octets for which there is room go out
-goes-out : (x : Outcome) (xs l out : List ℕ) (r : Written) → x ≡ puts xs → length xs ≤ length l
-    → out ≡ outputOf l (within (length l) x) → r ≡ answerOf (within (length l) x) → (r ≡ Written.Octets (length xs)) × (take (length xs) out ≡ xs)
-unfolding laid
-goes-out x xs l out r e room o a =
-    let f = le-ltb (length l) (length xs) room in
-    let put : out ≡ laid l 0 xs = rw (e, f) at o in
-    (rw (e, f) at a, ap (take (length xs)) put ∙ take-at xs _ (length xs) refl)
+use Rattle.demands.proofs.GivenOutputs.{goes-out}
 
 -- what was turned, of the n octets that went out
 turned-into : (from to : List Table) (s o out : List ℕ) (n : ℕ) → Turns from to s o out (Written.Octets n) → turnOf from to s ≡ puts (take n out)
 turned-into from to s o out n h =
     let w = written-laid (turnOf from to s) o out n (h .0) (h .1) in
     w .is ∙ ap puts (sym (ap (take n) (w .same) ∙ take-at (w .xs) (drop n o) n (sym (w .long))))
+
+-- The new page that an old one is turned into has its rows, and no known time.
+pub turned-new : (s : List ℕ) → Octets s → (o out : List ℕ) (n : ℕ) → Turns old new s o out (Written.Octets n)
+    → (rowsIn new (take n out) ≡ rowsIn old s) × NoTimes (rowsIn new (take n out))
+turned-new s okay o out n h =
+    let same = rows-new s okay (take n out) (turned-into old new s o out n h) in
+    (same, subst NoTimes (sym same) (old-unknown s))
+
+-- The old page that a new one is turned into has its rows without their times.
+pub turned-old : (s : List ℕ) → Octets s → (o out : List ℕ) (n : ℕ) → Turns new old s o out (Written.Octets n)
+    → rowsIn old (take n out) ≡ map untimed (rowsIn new s)
+turned-old s okay o out n h = rows-old s okay (take n out) (turned-into new old s o out n h)
 
 -- Old to new to old gives the same octets.
 pub old-there-and-back : (s : List ℕ) → Octets s → (o out : List ℕ) (n : ℕ) → Turns old new s o out (Written.Octets n)

@@ -109,7 +109,7 @@ abbrev pub WearEntries : List ℕ → ℕ → ℕ → List ℕ → List ℕ → 
 WearEntries s start k cells after r = Lays (isFew 4 cells) (entryListed s start k .refusal) (entryCells (entryListed s start k)) cells after r
 
 -- the doors that put out: whether too few cells are lent, what is put out otherwise, the output and the length's cell before, the two after, the refusal
-abbrev PutsOut : Bool → Outcome → List ℕ → List ℕ → List ℕ → List ℕ → ℕ → Type 0
+abbrev pub PutsOut : Bool → Outcome → List ℕ → List ℕ → List ℕ → List ℕ → ℕ → Type 0
 PutsOut few x l size out after r =
     (r ≡ putRefusal few (within (length l) x)) × (out ≡ putOutput few l (within (length l) x)) × (after ≡ putLength few size (within (length l) x))
 

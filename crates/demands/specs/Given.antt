@@ -1,7 +1,7 @@
 -- When each refusal number of reading is given, in the words of document 01's table "Refusal numbers" and in its order; and 12. The laws, a number is
 -- given when this holds and only then, are in proofs/GivenBlocks.antt and proofs/GivenOutputs.antt. The other operations:
 -- writing and rewriting: specs/GivenWriting.antt, proofs/GivenWriting.antt; a post: specs/Verdicts.antt, proofs/GivenPosts.antt;
--- loading and storing: specs/GivenPages.antt, proofs/GivenPages.antt; a feed: specs/GivenFeeds.antt, proofs/GivenFeeds.antt.
+-- loading, storing and turning: specs/GivenPages.antt, proofs/GivenPages.antt; a feed: specs/GivenFeeds.antt, proofs/GivenFeeds.antt.
 use mathlib.Core.List.{List}
 use mathlib.Core.Logic.{_⊎_}
 use mathlib.Core.Path.{_≡_}

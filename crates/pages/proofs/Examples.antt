@@ -1,6 +1,6 @@
 -- Pages in octets (01 "Ledger", 02 §5), and a midnight between two pages (02 §4), computed; a wrong one is refused. Assumes nothing.
 use mathlib.Core.Bool.{false}
-use mathlib.Core.List.{List, [], _∷_}
+use mathlib.Core.List.{List, [], _∷_, _++_}
 use mathlib.Core.Path.{_≡_, refl}
 use Prim.Native.Nat.{ℕ, _+_, _*_}
 use native.Mathlib.Omega.{arith}
@@ -34,20 +34,20 @@ new-length n = refl
 abbrev row : ℕ → ℕ → ℕ → Row
 row life reading time = record { key = 0x01021204; life = life; reading = reading; time = time }
 
-abbrev p8 : List ℕ
+abbrev pub p8 : List ℕ
 p8 =
     0x00 ∷ 0x01 ∷ 0x00 ∷ 0x08 ∷ 0x00 ∷ 0x0C ∷ 0x00 ∷ 0x18 ∷ 0x01 ∷ 0x02 ∷ 0x12 ∷ 0x04
     ∷ 0x00 ∷ 0x00 ∷ 0x00 ∷ 0x00 ∷ 0x00 ∷ 0x00 ∷ 0x00 ∷ 0xB9 ∷ 0x00 ∷ 0x00 ∷ 0x00 ∷ 0x1E ∷ []
 
-abbrev p8-new : List ℕ → List ℕ
+abbrev pub p8-new : List ℕ → List ℕ
 p8-new time =
     0x00 ∷ 0x01 ∷ 0x00 ∷ 0x0A ∷ 0x00 ∷ 0x0E ∷ 0x00 ∷ 0x1A ∷ 0x00 ∷ 0x1E ∷ 0x01 ∷ 0x02 ∷ 0x12 ∷ 0x04
     ∷ 0x00 ∷ 0x00 ∷ 0x00 ∷ 0x00 ∷ 0x00 ∷ 0x00 ∷ 0x00 ∷ 0xB9 ∷ 0x00 ∷ 0x00 ∷ 0x00 ∷ 0x1E ∷ time
 
-abbrev unknown : List ℕ
+abbrev pub unknown : List ℕ
 unknown = 0xFF ∷ 0xFF ∷ 0xFF ∷ 0xFF ∷ []
 
-abbrev ten : List ℕ
+abbrev pub ten : List ℕ
 ten = 0x00 ∷ 0x46 ∷ 0x50 ∷ 0x00 ∷ []
 
 p8-stored : pageOf old (row 185 30 noTime ∷ []) ≡ p8
@@ -79,6 +79,39 @@ not-new = refl
 not-old : headKeeps old (p8-new ten) ≡ false
 unfolding stand starts number rowLong
 not-old = refl
+
+-- Two rows: a table has both before the next begins, and a life count stands beside its reading
+
+abbrev two : ℕ → List Row
+two time = record { key = 1; life = 0x0203; reading = 4; time = time } ∷ record { key = 5; life = 0x0607; reading = 8; time = noTime } ∷ []
+
+abbrev readings : List ℕ
+readings =
+    0 ∷ 0 ∷ 0 ∷ 0 ∷ 0 ∷ 0 ∷ 0x02 ∷ 0x03 ∷ 0 ∷ 0 ∷ 0 ∷ 0x04 ∷ 0 ∷ 0 ∷ 0 ∷ 0 ∷ 0 ∷ 0 ∷ 0x06 ∷ 0x07 ∷ 0 ∷ 0 ∷ 0 ∷ 0x08 ∷ []
+
+abbrev two-old : List ℕ
+two-old = 0 ∷ 0x02 ∷ 0 ∷ 0x08 ∷ 0 ∷ 0x10 ∷ 0 ∷ 0x28 ∷ 0 ∷ 0 ∷ 0 ∷ 0x01 ∷ 0 ∷ 0 ∷ 0 ∷ 0x05 ∷ readings
+
+abbrev two-new : List ℕ
+two-new =
+    0 ∷ 0x02 ∷ 0 ∷ 0x0A ∷ 0 ∷ 0x12 ∷ 0 ∷ 0x2A ∷ 0 ∷ 0x32 ∷ 0 ∷ 0 ∷ 0 ∷ 0x01 ∷ 0 ∷ 0 ∷ 0 ∷ 0x05
+    ∷ (readings ++ (0 ∷ 0 ∷ 0 ∷ 0x09 ∷ 0xFF ∷ 0xFF ∷ 0xFF ∷ 0xFF ∷ []))
+
+two-old-stored : pageOf old (two 9) ≡ two-old
+unfolding table tables starts twos octets
+two-old-stored = refl
+
+two-new-stored : pageOf new (two 9) ≡ two-new
+unfolding table tables starts twos octets
+two-new-stored = refl
+
+two-old-rows : rowsIn old two-old ≡ two noTime
+unfolding rowFrom number upto
+two-old-rows = refl
+
+two-new-rows : rowsIn new two-new ≡ two 9
+unfolding rowFrom number upto
+two-new-rows = refl
 
 -- A midnight between two pages
 

@@ -12,9 +12,10 @@ use Rattle.octets.specs.Refusals.{rulesBroken}
 use Rattle.octets.proofs.Cases.{both}
 use Rattle.octets.proofs.Outcomes.{puts-same, not-puts}
 use Rattle.rows.specs.Rows.{Row}
+use Rattle.rows.specs.Order.{upto}
 use Rattle.ledger.specs.Ledgers.{keepsRules}
 use Rattle.ledger.specs.Steps.{Ruled}
-use Rattle.pages.specs.Pages.{old, new, tablesOf, pageLength, pageOf, rowsIn, cellsIn, headKeeps, pageKeeps, turnOf, untimed, NoTimes}
+use Rattle.pages.specs.Pages.{old, new, tablesOf, pageLength, pageOf, rowFrom, rowAt, countIn, rowsIn, cellsIn, headKeeps, pageKeeps, turnOf, untimed, NoTimes}
 use Rattle.pages.specs.declared.forms.Form.{Form}
 use Rattle.pages.specs.declared.forms.Table.{Table}
 use Rattle.pages.proofs.PageLaws.{shown, page-long}
@@ -39,6 +40,29 @@ module _ (from to : Form) (s : List ℕ) (o : Octets s) (p : List ℕ) where
       let w = turned (tablesOf from) (tablesOf to) s p e in
       let k = page-kept to (rowsIn (tablesOf from) s) (page-ruled from s o (w .0)) in
       rw (w .1, k .0, k .1)
+
+-- what a page was turned into has of its rows what that form shows
+module _ (from to : Form) (s : List ℕ) (o : Octets s) (p : List ℕ) (e : turnOf (tablesOf from) (tablesOf to) s ≡ puts p) where
+  turned-rows : rowsIn (tablesOf to) p ≡ map (shown (tablesOf to)) (rowsIn (tablesOf from) s)
+  turned-rows =
+      let w = turned (tablesOf from) (tablesOf to) s p e in
+      ap (rowsIn (tablesOf to)) (w .1) ∙ page-kept to (rowsIn (tablesOf from) s) (page-ruled from s o (w .0)) .1
+
+-- Turned into a new one, an old page keeps its rows; turned into an old one, a new one loses their times;
+pub rows-new : (s : List ℕ) → Octets s → (p : List ℕ) → turnOf old new s ≡ puts p → rowsIn new p ≡ rowsIn old s
+rows-new s o p e = turned-rows Form.Old Form.New s o p e ∙ all-new (rowsIn old s)
+
+pub rows-old : (s : List ℕ) → Octets s → (p : List ℕ) → turnOf new old s ≡ puts p → rowsIn old p ≡ map untimed (rowsIn new s)
+rows-old s o p e = turned-rows Form.New Form.Old s o p e ∙ all-old (rowsIn new s)
+
+-- and of an old page no time is known.
+listed-unknown : (s : List ℕ) (n : ℕ) (l : List ℕ) → NoTimes (map (rowAt old s n) l)
+unfolding rowFrom
+listed-unknown s n [] = tt
+listed-unknown s n (i ∷ l) = (refl, listed-unknown s n l)
+
+pub old-unknown : (s : List ℕ) → NoTimes (rowsIn old s)
+old-unknown s = listed-unknown s (countIn s) (upto (countIn s))
 
 -- Old to new to old gives the same octets.
 pub old-new-old : (s : List ℕ) → Octets s → (p : List ℕ) → turnOf old new s ≡ puts p → turnOf new old p ≡ puts s

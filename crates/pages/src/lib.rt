@@ -5,9 +5,9 @@ ghost use Rattle.octets.specs.Outcomes.{within, answerOf, outputOf, listedWritt
 ghost use Rattle.pages.specs.Pages.{old, new, loadOf, storeOf, turnOf};
 
 pub mod forms;
-pub mod reading;
+mod reading;
 pub mod turning;
-pub mod writing;
+mod writing;
 
 use crate::forms::Form;
 use crate::reading::load_form;
