@@ -69,6 +69,7 @@ unfoldable pub starts : ℕ → ℕ → ℕ → List Table → List ℕ
 starts long w n [] = (long + w * n) ∷ []
 starts long w n (t ∷ ts) = (long + w * n) ∷ starts long (w + rowWide t) n ts
 
+-- of an old page 8, 8 + 4n, 8 + 16n; of a new one 10, 10 + 4n, 10 + 16n, 10 + 20n (proofs/Examples.antt `old-head`, `new-head`)
 abbrev pub startsOf : List Table → ℕ → List ℕ
 startsOf ts n = starts (headLong ts) 0 n ts
 
