@@ -10,7 +10,7 @@ use lib.Dec.{ltb}
 use lib.ListN.{length, take}
 use lib.Seq.{take-at}
 use Rattle.octets.specs.Numbers.{laid}
-use Rattle.octets.specs.Outcomes.{Outcome, no, puts, within, answerOf, outputOf, outcomeListed}
+use Rattle.octets.specs.Outcomes.{Outcome, no, puts, within, answerOf, outputOf, listedWritten, outcomeListed}
 use Rattle.octets.specs.declared.output.Written.{Written}
 use Rattle.octets.proofs.Cases.{choose}
 use Rattle.octets.proofs.Outcomes.{says-no, says-short, says-puts, written-laid}
@@ -76,6 +76,11 @@ module _ (x : Outcome) (Fault : ℕ → Type 0) (Fine : Type 0) (ys : List ℕ) 
 
     pub number-written : (Fault 0 → ⊥) → (r ≡ 0) ↔ (Fine × (length ys ≤ length l))
     number-written none = (λ e. to-fine none x refl (sym h ∙ e), λ w. h ∙ ap (λ y. outcomeListed y .refusal) (within-puts (w .0) (w .1)))
+
+-- the answer that goes with an outcome, listed
+pub listed : (x : Outcome) → listedWritten (answerOf x) ≡ outcomeListed x
+listed (no n) = refl
+listed (puts xs) = refl
 
 -- octets for which there is room go out
 pub goes-out : (x : Outcome) (xs l out : List ℕ) (r : Written) → x ≡ puts xs → length xs ≤ length l

@@ -5,11 +5,13 @@ use Prim.Native.Nat.{ℕ, _≤_}
 use borrow.Author.Tests.{le-ltb}
 use lib.ListN.{length}
 use Rattle.octets.specs.Numbers.{laid}
-use Rattle.octets.specs.Outcomes.{WrittenListed, listedWritten}
+use Rattle.octets.specs.Outcomes.{WrittenListed, within, listedWritten}
 use Rattle.octets.specs.declared.output.Written.{Written}
 use Rattle.ledger.specs.declared.Answer.{Answer}
+use Rattle.pages.specs.Pages.{new, storeOf}
 use Rattle.doors.proofs.DoorSteps.{load-refused, post-refused, post-stored}
 use Rattle.demands.specs.Contracts.{Loads, Posts, Stores, WearPosts}
+use Rattle.demands.proofs.GivenOutputs.{listed}
 
 module _ (page s : List ℕ) (k : ℕ) (l size out after : List ℕ) (r : ℕ) (h : WearPosts page s k l size out after r) (one : 1 ≤ length size)
     (a : Answer) (loaded : Loads page a) where
@@ -27,5 +29,5 @@ module _ (page s : List ℕ) (k : ℕ) (l size out after : List ℕ) (r : ℕ) (
         → (r ≡ listedWritten w .refusal) × (out ≡ out') × (after ≡ laid size 0 (listedWritten w .length ∷ []))
     door-posted z w out' stores =
         let d = rw (le-ltb (length size) 1 one, post-stored page s k loaded good posted z) at h in
-        let said = sym (stores .2) in
+        let said = sym (ap listedWritten (stores .1) ∙ listed (within (length l) (storeOf new (b .ledger .cells)))) in
         (d .0 ∙ ap (λ (x : WrittenListed). x .refusal) said, d .1 ∙ sym (stores .0), d .2 ∙ ap (λ (x : WrittenListed). laid size 0 (x .length ∷ [])) said)

@@ -7,14 +7,14 @@ use borrow.Author.Tests.{le-ltb}
 use lib.ListN.{length, take, drop}
 use lib.Seq.{take-at}
 use Rattle.octets.specs.Numbers.{Octets, laid}
-use Rattle.octets.specs.Outcomes.{Outcome, no, puts, within, answerOf, outputOf, listedWritten, outcomeListed}
+use Rattle.octets.specs.Outcomes.{puts, within, answerOf, outputOf, listedWritten, outcomeListed}
 use Rattle.octets.specs.declared.output.Written.{Written}
 use Rattle.octets.proofs.Outcomes.{puts-same, written-laid}
 use Rattle.pages.specs.Pages.{old, new, pageOf, rowsIn, turnOf, untimed, NoTimes}
 use Rattle.pages.specs.declared.forms.Table.{Table}
 use Rattle.pages.proofs.TurnTheorems.{rows-new, rows-old, old-unknown, old-new-old, new-old-new, untimed-back, turned-long}
 use Rattle.demands.specs.Contracts.{Turns, WearTurns}
-use Rattle.demands.proofs.GivenOutputs.{goes-out}
+use Rattle.demands.proofs.GivenOutputs.{listed, goes-out}
 
 -- what was turned, of the n octets that went out
 turned-into : (from to : List Table) (s o out : List ℕ) (n : ℕ) → Turns from to s o out (Written.Octets n) → turnOf from to s ≡ puts (take n out)
@@ -60,10 +60,6 @@ new-there-and-back s okay o out n h o' out' r room k =
     )
 
 -- A door turns as the operation does: what the operation answers, in the refusal and in the cell of the length.
-listed : (x : Outcome) → listedWritten (answerOf x) ≡ outcomeListed x
-listed (no n) = refl
-listed (puts xs) = refl
-
 pub at-the-door : (from to : List Table) (page l size out after : List ℕ) (r : ℕ) → WearTurns from to page l size out after r → 1 ≤ length size
     → let w = answerOf (within (length l) (turnOf from to page)) in
     Turns from to page l out w × (r ≡ listedWritten w .refusal) × (after ≡ laid size 0 (listedWritten w .length ∷ []))
