@@ -5,8 +5,7 @@ use mathlib.Core.List.{List, [], _∷_}
 use mathlib.Core.Path.{_≡_, ap, sym, _∙_}
 use Prim.Native.Nat.{ℕ, _≤_, _<_}
 use borrow.Author.Tests.{lt-ltb, le-ltb}
-use lib.ListN.{length, take, drop, replicate}
-use lib.Seq.{take-at}
+use lib.ListN.{length, take, replicate}
 use Rattle.octets.specs.Numbers.{Octets, laid}
 use Rattle.octets.specs.Outcomes.{Outcome, no, puts, within, outputOf, outcomeListed}
 use Rattle.octets.specs.Refusals.{outputTooShort}
@@ -25,8 +24,8 @@ use Rattle.ledger.proofs.PostTheorems.{posted-same}
 use Rattle.doors.specs.Cell.{feedCellCount}
 use Rattle.doors.specs.Feeds.{isOver, feedRun, pageFed, feedCells}
 use Rattle.demands.specs.Contracts.{Writes, Rewrites, Posts, Loads, Stores, Turns, WearFeeds, PutsOut}
-use Rattle.octets.proofs.Outcomes.{refused-same, written-laid}
-use Rattle.demands.proofs.GivenOutputs.{goes-out}
+use Rattle.octets.proofs.Outcomes.{refused-same}
+use Rattle.demands.proofs.GivenOutputs.{goes-out, went-out}
 use Rattle.demands.proofs.GivenPages.{store-puts}
 
 -- A refusal leaves the output as it stood.
@@ -78,9 +77,8 @@ module _ (page s : List ℕ) (more : ℕ) (l cells out after : List ℕ) (r : �
 pub stored-loaded : (l : Ledger) → Held (l .cells) → (o out : List ℕ) (n : ℕ) → Stores l o out (Written.Octets n)
     → (r : Answer) → Loads (take n out) r → r ≡ answer 0 (l .cells)
 stored-loaded l held o out n h r e =
-    let w = written-laid (storeOf new (l .cells)) o out n (h .0) (h .1) in
-    let p = store-puts l (w .xs) .0 (w .is) in
-    e ∙ ap (loadOf new) (ap (take n) (w .same) ∙ take-at (w .xs) (drop n o) n (sym (w .long)) ∙ sym (p .1)) ∙ store-load (l .cells) held (p .0)
+    let p = store-puts l (take n out) .0 (went-out (storeOf new (l .cells)) o out n (h .0) (h .1)) in
+    e ∙ ap (loadOf new) (sym (p .1)) ∙ store-load (l .cells) held (p .0)
 
 -- and store after load the octets, wherever there is room for them.
 pub loaded-stored : (s : List ℕ) → Octets s → (l : Ledger) → Loads s (answer 0 (l .cells))

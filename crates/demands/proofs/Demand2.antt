@@ -5,7 +5,6 @@ use mathlib.Core.Bool.{true, false}
 use mathlib.Core.List.{List, _∷_, _++_, map}
 use Prim.Native.Nat.{ℕ, _+_, _<_, _≤_}
 use lib.ListN.{length, getD, take, drop}
-use lib.Seq.{take-at}
 use Rattle.octets.specs.Choice.{odd}
 use Rattle.octets.specs.Numbers.{Octets, number}
 use Rattle.octets.specs.Refusals.{noSuch}
@@ -40,6 +39,7 @@ use Rattle.writing.proofs.WriteTheorems.{write-normal, write-reading}
 use Rattle.writing.proofs.ReadBackTheorems.{write-back, entry-back, entry-none}
 use Rattle.demands.specs.Contracts.{Reads, Steps, Entries, Writes, Rewrites}
 use Rattle.octets.proofs.Outcomes.{Laid, written-laid}
+use Rattle.demands.proofs.GivenOutputs.{went-out}
 use Rattle.octets.proofs.Parts.{Octets-drop}
 
 -- Steps from 3 visit exactly the records that reading counts, and these mean the records of the block.
@@ -86,7 +86,7 @@ module _ (s : List ℕ) (o : Octets s) (t : Record) (small : t .marks < 42949672
   pub own-rewriting : rewriteOf out ≡ puts (take n out)
   own-rewriting =
       ap rewriteOf (w .same) ∙ write-normal s t small (w .xs) (w .is) (drop n l)
-      ∙ ap puts (sym (ap (take n) (w .same) ∙ take-at (w .xs) (drop n l) n (sym (w .long))))
+      ∙ sym (w .is) ∙ went-out (writeOf s t) l out n (h .0) (h .1)
 
 -- The normal form: a block s was rewritten into the output, n octets of it
 module _ (s : List ℕ) (o : Octets s) (l out : List ℕ) (n : ℕ) (h : Rewrites s l out (Written.Octets n)) where
@@ -106,7 +106,7 @@ module _ (s : List ℕ) (o : Octets s) (l out : List ℕ) (n : ℕ) (h : Rewrite
   pub again : rewriteOf out ≡ puts (take n out)
   again =
       ap rewriteOf (x .same) ∙ rewrite-again s (x .xs) o (x .is) (drop n l)
-      ∙ ap puts (sym (ap (take n) (x .same) ∙ take-at (x .xs) (drop n l) n (sym (x .long))))
+      ∙ sym (x .is) ∙ went-out (rewriteOf s) l out n (h .0) (h .1)
 
   -- It is at most as long as the block that was read.
   pub not-longer : n ≤ number 2 s 1

@@ -7,7 +7,7 @@ use Prim.Native.Nat.{ℕ, _≤_}
 use native.Mathlib.Omega.{arith}
 use borrow.Author.Tests.{ltb-true, ltb-false, le-ltb}
 use lib.Dec.{ltb}
-use lib.ListN.{length, take}
+use lib.ListN.{length, take, drop}
 use lib.Seq.{take-at}
 use Rattle.octets.specs.Numbers.{laid}
 use Rattle.octets.specs.Outcomes.{Outcome, no, puts, within, answerOf, outputOf, listedWritten, outcomeListed}
@@ -90,3 +90,10 @@ goes-out x xs l out r e room o a =
     let f = le-ltb (length l) (length xs) room in
     let put : out ≡ laid l 0 xs = rw (e, f) at o in
     (rw (e, f) at a, ap (take (length xs)) put ∙ take-at xs _ (length xs) refl)
+
+-- and of the n octets that are answered, those are what went out
+pub went-out : (x : Outcome) (l out : List ℕ) (n : ℕ) → out ≡ outputOf l (within (length l) x) → Written.Octets n ≡ answerOf (within (length l) x)
+    → x ≡ puts (take n out)
+went-out x l out n o a =
+    let w = written-laid x l out n o a in
+    w .is ∙ ap puts (sym (ap (take n) (w .same) ∙ take-at (w .xs) (drop n l) n (sym (w .long))))

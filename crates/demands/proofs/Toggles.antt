@@ -6,12 +6,11 @@ use mathlib.Core.List.{List, [], _∷_, _++_}
 use Prim.Native.Nat.{ℕ, _+_, _/_, _%_, _<_}
 use native.Mathlib.Omega.{arith}
 use lib.Dec.{eqb}
-use lib.ListN.{length, take, drop}
-use lib.Seq.{take-at}
+use lib.ListN.{length, take}
 use Rattle.octets.specs.Numbers.{Octets}
 use Rattle.octets.specs.Outcomes.{puts}
 use Rattle.octets.specs.declared.output.Written.{Written}
-use Rattle.octets.proofs.Outcomes.{written-laid}
+use Rattle.demands.proofs.GivenOutputs.{went-out}
 use Rattle.layouts.specs.declared.form.Form.{Form}
 use Rattle.items.specs.declared.typed.Item.{Item}
 use Rattle.items.specs.declared.typed.Sdps.{Sdps}
@@ -166,8 +165,5 @@ module _ (s : List ℕ) (o : Octets s) (len n : ℕ) (a : Reads s (Reading.Accep
   pub rewritings-differ : (b / 2 % 2 ≡ t .sdps .sttn → ⊥) → (l l' out out' : List ℕ) (k k' : ℕ) → Rewrites s l out (Written.Octets k)
       → Rewrites (otherSdps s start b) l' out' (Written.Octets k') → take k out ≡ take k' out' → ⊥
   rewritings-differ differ l l' out out' k k' w w' same =
-      let one = written-laid (rewriteOf s) l out k (w .0) (w .1) in
-      let other = written-laid (rewriteOf x) l' out' k' (w' .0) (w' .1) in
-      let first : take k out ≡ one .xs = ap (take k) (one .same) ∙ take-at (one .xs) (drop k l) k (sym (one .long)) in
-      let second : take k' out' ≡ other .xs = ap (take k') (other .same) ∙ take-at (other .xs) (drop k' l') k' (sym (other .long)) in
-      other-rewriting differ (one .is ∙ ap puts (sym first ∙ same ∙ second) ∙ sym (other .is))
+      other-rewriting differ
+      (went-out (rewriteOf s) l out k (w .0) (w .1) ∙ ap puts same ∙ sym (went-out (rewriteOf x) l' out' k' (w' .0) (w' .1)))

@@ -4,23 +4,20 @@ use mathlib.Core.Logic.{_↔_}
 use mathlib.Core.Path.{_≡_, refl, sym, ap, _∙_, subst}
 use Prim.Native.Nat.{ℕ, _≤_}
 use borrow.Author.Tests.{le-ltb}
-use lib.ListN.{length, take, drop}
-use lib.Seq.{take-at}
+use lib.ListN.{length, take}
 use Rattle.octets.specs.Numbers.{Octets, laid}
 use Rattle.octets.specs.Outcomes.{puts, within, answerOf, outputOf, listedWritten, outcomeListed}
 use Rattle.octets.specs.declared.output.Written.{Written}
-use Rattle.octets.proofs.Outcomes.{puts-same, written-laid}
+use Rattle.octets.proofs.Outcomes.{puts-same}
 use Rattle.pages.specs.Pages.{old, new, pageOf, rowsIn, turnOf, untimed, NoTimes}
 use Rattle.pages.specs.declared.forms.Table.{Table}
 use Rattle.pages.proofs.TurnTheorems.{rows-new, rows-old, old-unknown, old-new-old, new-old-new, untimed-back, turned-long}
 use Rattle.demands.specs.Contracts.{Turns, WearTurns}
-use Rattle.demands.proofs.GivenOutputs.{listed, goes-out}
+use Rattle.demands.proofs.GivenOutputs.{listed, goes-out, went-out}
 
 -- what was turned, of the n octets that went out
 turned-into : (from to : List Table) (s o out : List ℕ) (n : ℕ) → Turns from to s o out (Written.Octets n) → turnOf from to s ≡ puts (take n out)
-turned-into from to s o out n h =
-    let w = written-laid (turnOf from to s) o out n (h .0) (h .1) in
-    w .is ∙ ap puts (sym (ap (take n) (w .same) ∙ take-at (w .xs) (drop n o) n (sym (w .long))))
+turned-into from to s o out n h = went-out (turnOf from to s) o out n (h .0) (h .1)
 
 -- The new page that an old one is turned into has its rows, and no known time.
 pub turned-new : (s : List ℕ) → Octets s → (o out : List ℕ) (n : ℕ) → Turns old new s o out (Written.Octets n)

@@ -120,11 +120,16 @@ module _ (f : Form) where
       (store-puts ts (cellsIn ts s) _ refl k ∙ ap puts (ap (pageOf ts) (rows-back (rowsIn ts s)) ∙ page-same s o h)))
       (λ e. let z : rulesBroken ≡ 0 = ap (λ a. a .refusal) e in absurd (omega arith))
 
+  -- a page with its head has the cells of a ledger
+  page-held : (s : List ℕ) → Octets s → headKeeps ts s ≡ true → Held (cellsIn ts s)
+  page-held s o h =
+      small-held (rowsIn ts s) (rw (listed-many (rowAt ts s (countIn s)) (countIn s)) (head-says ts s h .few)) (small-in ts s o)
+
   -- What is loaded has the cells of a ledger, and a fresh ledger has them too.
   pub loaded-held : (s : List ℕ) → Octets s → Held (loadOf ts s .ledger .cells)
   loaded-held s o =
       load-cases (λ a. Held (a .ledger .cells)) s
-      (λ h k. small-held (rowsIn ts s) (rw (listed-many (rowAt ts s (countIn s)) (countIn s)) (head-says ts s h .few)) (small-in ts s o))
+      (λ h k. page-held s o h)
       (small-held [] (omega arith) tt)
 
   -- What is loaded keeps the rules, and so does a fresh ledger.
@@ -139,9 +144,7 @@ module _ (f : Form) where
   pub page-ruled : (s : List ℕ) → Octets s → pageKeeps ts s ≡ true → Ruled (rowsIn ts s)
   page-ruled s o t =
       let w = both (headKeeps ts s) (keepsRules (cellsIn ts s)) t in
-      let many = listed-many (rowAt ts s (countIn s)) (countIn s) in
-      let held = small-held (rowsIn ts s) (rw many (head-says ts s (w .0) .few)) (small-in ts s o) in
-      let k = kept-rules (cellsIn ts s) held (w .1) in
+      let k = kept-rules (cellsIn ts s) (page-held s o (w .0)) (w .1) in
       subst Ruled (rows-back (rowsIn ts s)) (k .good, k .narrow)
 
 -- Two new pages of rows that keep the rules have the same octets only where the rows are the same.

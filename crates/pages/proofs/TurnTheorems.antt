@@ -31,22 +31,31 @@ turned from to s p = go (pageKeeps from s) refl
     go true t e = (t, sym (puts-same e))
     go false f e = absurd (not-puts e)
 
--- a page that was turned, turned back, is the page of what the other form showed of its rows
-module _ (from to : Form) (s : List ℕ) (o : Octets s) (p : List ℕ) where
-  back : turnOf (tablesOf from) (tablesOf to) s ≡ puts p
-      → turnOf (tablesOf to) (tablesOf from) p ≡ puts (pageOf (tablesOf from) (map (shown (tablesOf to)) (rowsIn (tablesOf from) s)))
-  unfolding turnOf
-  back e =
-      let w = turned (tablesOf from) (tablesOf to) s p e in
-      let k = page-kept to (rowsIn (tablesOf from) s) (page-ruled from s o (w .0)) in
-      rw (w .1, k .0, k .1)
-
--- what a page was turned into has of its rows what that form shows
+-- A page that was turned
 module _ (from to : Form) (s : List ℕ) (o : Octets s) (p : List ℕ) (e : turnOf (tablesOf from) (tablesOf to) s ≡ puts p) where
-  turned-rows : rowsIn (tablesOf to) p ≡ map (shown (tablesOf to)) (rowsIn (tablesOf from) s)
-  turned-rows =
-      let w = turned (tablesOf from) (tablesOf to) s p e in
-      ap (rowsIn (tablesOf to)) (w .1) ∙ page-kept to (rowsIn (tablesOf from) s) (page-ruled from s o (w .0)) .1
+  abbrev given : List Row
+  given = rowsIn (tablesOf from) s
+
+  into : (pageKeeps (tablesOf from) s ≡ true) × (p ≡ pageOf (tablesOf to) given)
+  into = turned (tablesOf from) (tablesOf to) s p e
+
+  ruled : Ruled given
+  ruled = page-ruled from s o (into .0)
+
+  same : pageOf (tablesOf from) given ≡ s
+  same = page-same from s o (both (headKeeps (tablesOf from) s) (keepsRules (cellsIn (tablesOf from) s)) (into .0) .0)
+
+  abbrev kept : (pageKeeps (tablesOf to) (pageOf (tablesOf to) given) ≡ true)
+      × (rowsIn (tablesOf to) (pageOf (tablesOf to) given) ≡ map (shown (tablesOf to)) given)
+  kept = page-kept to given ruled
+
+  -- what it was turned into has of its rows what that form shows, and is turned back into the page of these
+  turned-rows : rowsIn (tablesOf to) p ≡ map (shown (tablesOf to)) given
+  turned-rows = ap (rowsIn (tablesOf to)) (into .1) ∙ kept .1
+
+  back : turnOf (tablesOf to) (tablesOf from) p ≡ puts (pageOf (tablesOf from) (map (shown (tablesOf to)) given))
+  unfolding turnOf
+  back = rw (into .1, kept .0, kept .1)
 
 -- Turned into a new one, an old page keeps its rows; turned into an old one, a new one loses their times;
 pub rows-new : (s : List ℕ) → Octets s → (p : List ℕ) → turnOf old new s ≡ puts p → rowsIn new p ≡ rowsIn old s
@@ -67,8 +76,7 @@ old-unknown s = listed-unknown s (countIn s) (upto (countIn s))
 -- Old to new to old gives the same octets.
 pub old-new-old : (s : List ℕ) → Octets s → (p : List ℕ) → turnOf old new s ≡ puts p → turnOf new old p ≡ puts s
 old-new-old s o p e =
-    let k = both (headKeeps old s) (keepsRules (cellsIn old s)) (turned old new s p e .0) in
-    back Form.Old Form.New s o p e ∙ ap (λ rows. puts (pageOf old rows)) (all-new (rowsIn old s)) ∙ ap puts (page-same Form.Old s o (k .0))
+    back Form.Old Form.New s o p e ∙ ap (λ rows. puts (pageOf old rows)) (all-new (rowsIn old s)) ∙ ap puts (same Form.Old Form.New s o p e)
 
 -- rows that are as they were without their times have none that is known, and the reverse
 none-known : (rows : List Row) → map untimed rows ≡ rows → NoTimes rows
@@ -84,22 +92,22 @@ module _ (s : List ℕ) (o : Octets s) (p : List ℕ) (e : turnOf new old s ≡ 
   abbrev rows : List Row
   rows = rowsIn new s
 
-  ruled : Ruled rows
-  ruled = page-ruled Form.New s o (turned new old s p e .0)
+  abbrev as-given : pageOf new rows ≡ s
+  as-given = same Form.New Form.Old s o p e
 
-  same : pageOf new rows ≡ s
-  same = page-same Form.New s o (both (headKeeps new s) (keepsRules (cellsIn new s)) (turned new old s p e .0) .0)
+  abbrev keep : Ruled rows
+  keep = ruled Form.New Form.Old s o p e
 
   pub untimed-back : turnOf old new p ≡ puts (pageOf new (map untimed rows))
   untimed-back = back Form.New Form.Old s o p e ∙ ap (λ x. puts (pageOf new x)) (all-old rows)
 
   pub turned-long : length (pageOf new (map untimed rows)) ≡ length s
   turned-long =
-      page-long new (map untimed rows) ∙ ap (pageLength new) (length-map rows untimed) ∙ sym (page-long new rows) ∙ ap length same
+      page-long new (map untimed rows) ∙ ap (pageLength new) (length-map rows untimed) ∙ sym (page-long new rows) ∙ ap length as-given
 
   -- and these are the octets exactly where every time was unknown.
   pub new-old-new : (turnOf old new p ≡ puts s) ↔ NoTimes (rowsIn new s)
   new-old-new = (
-    λ h. none-known rows (new-apart (map untimed rows) rows (untimed-ruled rows ruled) ruled (puts-same (sym untimed-back ∙ h) ∙ sym same)),
-    λ n. untimed-back ∙ ap (λ x. puts (pageOf new x)) (none-untimed rows n) ∙ ap puts same,
+    λ h. none-known rows (new-apart (map untimed rows) rows (untimed-ruled rows keep) keep (puts-same (sym untimed-back ∙ h) ∙ sym as-given)),
+    λ n. untimed-back ∙ ap (λ x. puts (pageOf new x)) (none-untimed rows n) ∙ ap puts as-given,
   )
