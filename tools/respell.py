@@ -37,7 +37,7 @@ def declared():
     """Each declared name: whether it is a type, and whether a file of specs/ has it."""
     out = collections.OrderedDict()
     for path in files("crates/*/specs/**/*.antt", "crates/*/proofs/**/*.antt"):
-        if os.path.basename(path) in ("Proof.antt", "Lib.antt", "Answers.antt", "Invariants.antt"):
+        if os.path.basename(path) in ("Proof.antt", "Lib.antt"):
             continue
         lines = read(path).split("\n")
         for i, line in enumerate(lines):
@@ -101,15 +101,17 @@ def table(names):
 FIELD = re.compile(r"[a-z][\w'-]*\.$|[)\]]\.$|\d\.$")
 
 
-def turned(text, new, comments):
-    out, last = [], 0
+def turned(text, new, path):
+    out, last, aliases = [], 0, set(re.findall(r"\bas ([\w-]+)", text))
     for m in TOKEN.finditer(text):
         word = m[0]
         if word.startswith(("--", "//", '"')):
-            if comments and not word.startswith('"'):
+            if not word.startswith('"'):
                 word = re.sub(r"`([A-Za-z_][\w'-]*)`", lambda k: "`" + new.get(k[1], k[1]) + "`", word)
                 word = re.sub(r"\b[a-z]+[a-z0-9]*[A-Z]\w*", lambda k: new.get(k[0], k[0]), word)
-        elif word in new and not (FIELD.search(text[max(0, m.start() - 60) : m.start()]) and word not in FIELDS):
+        elif code(text, m, path) and not word[:1].isupper() and re.fullmatch(r"[a-z_0-9]+", word):
+            pass
+        elif word in new and not (FIELD.search(text[max(0, m.start() - 60) : m.start()]) and word not in FIELDS and not of_alias(text, m, aliases)):
             word = new[word]
         out += [text[last : m.start()], word]
         last = m.end()
@@ -117,6 +119,31 @@ def turned(text, new, comments):
 
 
 FIELDS = set()
+
+
+def of_alias(text, m, aliases):
+    """Whether the word stands behind a name that the file gave to a module."""
+    before = re.search(r"(?<![\w.'-])([\w-]+)\.$", text[max(0, m.start() - 60) : m.start()])
+    return bool(before) and before[1] in aliases
+
+
+def code(text, m, path):
+    """In a source file: whether the word stands outside of clauses and of ghost items."""
+    if not path.endswith((".rt", ".edit")):
+        return False
+    before = text[: m.start()]
+    at = max(before.rfind("requires {"), before.rfind("ensures {"), before.rfind("ghost use"), before.rfind("ghost invariant"))
+    if at < 0:
+        return True
+    part = before[at:]
+    if part.startswith("ghost use"):
+        return ";" in part
+    deep = 0
+    for c in part[part.index("{") :]:
+        deep += (c == "{") - (c == "}")
+        if not deep:
+            return True
+    return False
 
 
 def fields():
@@ -142,7 +169,7 @@ def main(argv):
     everything = files("crates/*/specs/**/*.antt", "crates/*/proofs/**/*.antt", "crates/*/src/**/*.rt", "crates/*/must-fail/*.edit")
     for path in everything:
         text = read(path)
-        after = turned(text, new, True)
+        after = turned(text, new, path)
         if after != text:
             with open(path, "w", encoding="utf-8") as it:
                 it.write(after)

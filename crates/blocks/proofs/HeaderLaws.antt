@@ -14,7 +14,6 @@ use Rattle.octets.proofs.Cases.{choose}
 use Rattle.layouts.specs.Categories.{known}
 use Rattle.blocks.specs.Headers.{header_of, head_refused, head_good, listed_head, head_listed}
 use Rattle.blocks.specs.declared.header.Head.{Head}
-use Rattle.blocks.specs.declared.header.Head.TheVariants.{Good, Refused}
 
 -- a block that may be read: its category, and LEN octets of it are there
 pub record Headed (s : List ℕ) (cat len : ℕ) : Type 0 where

@@ -12,20 +12,20 @@ use layouts::category::{Cat23, Cat242};
 use octets::refusal;
 
 // Where a record starts.
-#[derive(Drop)]
+#[derive(Clone, Copy)]
 pub struct Cursor {
     pub at: usize,
 }
 
 // One record and the cursor behind it, or the refusal and the offset of the faulty record's first octet.
-#[derive(Drop)]
+#[derive(Clone, Copy)]
 pub enum Step {
     Taken(Record, Cursor),
     Refused(u8, usize),
 }
 
 // One entry of 23/120 or of 242/550, or the refusal and its offset.
-#[derive(Drop)]
+#[derive(Clone, Copy)]
 pub enum Found {
     Counter(Counter),
     Version(Version),

@@ -6,7 +6,7 @@ use layouts::category::is_known;
 use octets::refusal;
 
 // The category and LEN, or the number that refuses the block before its records.
-#[derive(Drop)]
+#[derive(Clone, Copy)]
 pub enum Head {
     Good(u8, usize),
     Refused(u8),

@@ -1,3 +1,5 @@
+#![tactic(auto)]
+
 // Blocks of records: the header, the specification, and records one after the other.
 pub mod cursor;
 pub mod header;

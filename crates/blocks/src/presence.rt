@@ -8,7 +8,7 @@ use layouts::category::mandatory_of;
 use layouts::presence::{Need, rule_of};
 
 // Every mark of the first is one of the second.
-fn has_all_lem(mandatory: u32, marks: u32) -> bool
+fn has_all(mandatory: u32, marks: u32) -> bool
     ensures { result ≡ has_all 32 mandatory marks }
 {
     marks & mandatory == mandatory
@@ -33,7 +33,7 @@ fn is_met(cat: u8, message_type: u8, marks: u32, f: usize) -> bool
 pub fn is_present(cat: u8, message_type: u8, marks: u32) -> bool
     ensures { result ≡ meets (needs_of cat) message_type (flags_of 32 marks) }
 {
-    if !has_all_lem(mandatory_of(cat), marks) {
+    if !has_all(mandatory_of(cat), marks) {
         return false;
     }
     let last = last_field(cat);

@@ -23,7 +23,7 @@ use layouts::form::Form;
 
 // A record: its category, the marks of its fields (bit f - 1 for field f), and all items of document 01. An item that is not marked is
 // all zero. Entries are those of 23/120 or 242/550.
-#[derive(Drop)]
+#[derive(Clone, Copy)]
 pub struct Record {
     pub category: u8,
     pub marks: u32,
@@ -48,7 +48,7 @@ pub struct Record {
 pub(crate) const FORMS: usize = 17;
 
 // A record's marks, where its items start, by the numbers of their forms, and where the last ends.
-#[derive(Drop)]
+#[derive(Clone, Copy)]
 pub(crate) struct Starts {
     pub marks: u32,
     pub items: [usize; FORMS],

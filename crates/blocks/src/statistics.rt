@@ -15,7 +15,7 @@ use layouts::category::Cat23;
 use layouts::form::Form;
 
 // The source, the octet of 23/015, the time, the offset of the first entry of 23/120 and how many there are.
-#[derive(Drop)]
+#[derive(Clone, Copy)]
 pub struct Statistics {
     pub sac: u8,
     pub sic: u8,
@@ -26,14 +26,14 @@ pub struct Statistics {
 }
 
 // A record of category 23 as the ledger sees it, with the next start.
-#[derive(Drop)]
+#[derive(Clone, Copy)]
 pub enum Seen {
     Report(Statistics, usize),
     Other(usize),
 }
 
 // An entry of 23/120 as the ledger has it, whose crate cannot name the items' type: TYPE, REF and count.
-#[derive(Drop)]
+#[derive(Clone, Copy)]
 pub struct Entry {
     pub typ: u8,
     pub reference: u8,

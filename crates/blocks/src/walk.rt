@@ -21,14 +21,14 @@ use layouts::form::Form;
 use octets::refusal;
 
 // Where a run of records stands and how many it has passed, or the number that refuses one and the offset of its first octet.
-#[derive(Drop)]
+#[derive(Clone, Copy)]
 pub enum Walked {
     To(usize, usize),
     Refused(u8, usize),
 }
 
 // LEN and the count of records, or the number that refuses the block and the offset of the faulty record's first octet.
-#[derive(Drop)]
+#[derive(Clone, Copy)]
 pub enum Reading {
     Accepted(usize, usize),
     Refused(u8, usize),

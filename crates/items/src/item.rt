@@ -22,7 +22,7 @@ use layouts::form::Form;
 use octets::refusal;
 
 // How many octets a written item has, or the number that refuses it.
-#[derive(Drop)]
+#[derive(Clone, Copy)]
 pub enum Size {
     Octets(usize),
     Refused(u8),

@@ -1,14 +1,14 @@
 // The typed forms of items. Units are types: none can stand where another is asked for.
 
 // Of 0.5 s.
-#[derive(Drop)]
+#[derive(Clone, Copy)]
 pub struct HalfSeconds(pub u8);
 
-#[derive(Drop)]
+#[derive(Clone, Copy)]
 pub struct Seconds(pub u8);
 
 // Of 1/128 s since midnight.
-#[derive(Drop)]
+#[derive(Clone, Copy)]
 pub struct TimeOfDay(pub u32);
 
 // The greatest values: of a type (23/000, 65/000) and of a report (65/050), which count from 1; of a time of day, which may be
@@ -27,21 +27,21 @@ pub const LAST_VERSION: u8 = 99;
 pub const MOST_COUNTED: usize = 255;
 
 // 010.
-#[derive(Drop)]
+#[derive(Clone, Copy)]
 pub struct Source {
     pub sac: u8,
     pub sic: u8,
 }
 
 // 23/015.
-#[derive(Drop)]
+#[derive(Clone, Copy)]
 pub struct Service {
     pub sid: u8,
     pub styp: u8,
 }
 
 // 65/040. STTN changes its value whenever the SDPS starts to re-number its tracks.
-#[derive(Drop)]
+#[derive(Clone, Copy)]
 pub struct Sdps {
     pub nogo: u8,
     pub ovl: u8,
@@ -51,7 +51,7 @@ pub struct Sdps {
 }
 
 // 23/100. Extended is 1 where the extension is there, else 0.
-#[derive(Drop)]
+#[derive(Clone, Copy)]
 pub struct Station {
     pub nogo: u8,
     pub odp: u8,
@@ -65,7 +65,7 @@ pub struct Station {
 }
 
 // 23/101. Extended is 1 where the extension is there, else 0.
-#[derive(Drop)]
+#[derive(Clone, Copy)]
 pub struct Configuration {
     pub rp: HalfSeconds,
     pub sc: u8,
@@ -74,14 +74,14 @@ pub struct Configuration {
 }
 
 // Entries or content: the offset of the first, and how many there are.
-#[derive(Drop)]
+#[derive(Clone, Copy)]
 pub struct Place {
     pub at: usize,
     pub count: usize,
 }
 
 // An entry of 23/120.
-#[derive(Drop)]
+#[derive(Clone, Copy)]
 pub struct Counter {
     pub typ: u8,
     pub reference: u8,
@@ -89,7 +89,7 @@ pub struct Counter {
 }
 
 // An entry of 242/550.
-#[derive(Drop)]
+#[derive(Clone, Copy)]
 pub struct Version {
     pub category: u8,
     pub main: u8,
@@ -97,7 +97,7 @@ pub struct Version {
 }
 
 // An item in its typed form.
-#[derive(Drop)]
+#[derive(Clone, Copy)]
 pub enum Item {
     Absent,
     Source(Source),

@@ -7,12 +7,12 @@ use crate::ends::Kind;
 use crate::form::Form;
 
 // What stands at a field: its form, and its kind with the sizes.
-#[derive(Drop)]
+#[derive(Clone, Copy)]
 pub struct Field(pub Form, pub Kind);
 
 pub const SPARE: Field = Field(Form::Spare, Kind::Spare);
 
-#[derive(Drop)]
+#[derive(Clone, Copy)]
 pub struct Cat23;
 
 impl Cat23 {
@@ -81,7 +81,7 @@ impl Cat23 {
     }
 }
 
-#[derive(Drop)]
+#[derive(Clone, Copy)]
 pub struct Cat65;
 
 impl Cat65 {
@@ -139,7 +139,7 @@ impl Cat65 {
     }
 }
 
-#[derive(Drop)]
+#[derive(Clone, Copy)]
 pub struct Cat242;
 
 impl Cat242 {

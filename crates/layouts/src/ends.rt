@@ -6,7 +6,7 @@ ghost use Rattle.layouts.specs.Ends.{Ends, room_end, counted_end, chain_end, kin
 use octets::refusal;
 
 // The kind of an item with its sizes in octets.
-#[derive(Drop)]
+#[derive(Clone, Copy)]
 pub enum Kind {
     Spare,
     Fixed(u8),
@@ -18,7 +18,7 @@ pub enum Kind {
 }
 
 // The octet after an item's last one, or the number that refuses it.
-#[derive(Drop)]
+#[derive(Clone, Copy)]
 pub enum End {
     At(usize),
     Refused(u8),

@@ -1,7 +1,7 @@
 // The items that document 01 lists.
 
 // What an item holds: one name for each layout and place in the typed record.
-#[derive(Drop)]
+#[derive(Clone, Copy)]
 pub enum Form {
     Spare,
     // 010.

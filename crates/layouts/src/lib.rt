@@ -1,3 +1,5 @@
+#![tactic(auto)]
+
 // The layouts of categories 23, 65 and 242: their fields, the kinds of items with their sizes, and where an item ends.
 pub mod category;
 pub mod ends;

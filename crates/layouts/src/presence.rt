@@ -7,7 +7,7 @@ use crate::category::{Cat23, Cat65, Cat242};
 use crate::ends::Kind;
 
 // The letters of 000 §5.2.1: mandatory, optional, never present.
-#[derive(Drop)]
+#[derive(Clone, Copy)]
 pub enum Need {
     M,
     O,
@@ -15,7 +15,7 @@ pub enum Need {
 }
 
 // A field's presence, and its length.
-#[derive(Drop)]
+#[derive(Clone, Copy)]
 pub struct Rule(pub Need, pub Kind);
 
 // A spare field, or one past the category's last: nothing is asked here, since a mark of it was refused before (5).

@@ -1,0 +1,10 @@
+use native.Mathlib.Nat.{div-one}
+use Rattle.layouts.specs.Groups.{values}
+use Rattle.layouts.specs.Offsets.{trace_at}
+use Rattle.layouts.specs.Layouts.{format}
+use Rattle.items.proofs.Items.{one-octet}
+use Rattle.items.proofs.item.octet_at.Goals as goal
+
+pub returns : goal.returns
+unfolding trace_at format values
+returns c = rw (one-octet c.args.s.now c.args.at _ c.octet.ensures.0, div-one)
