@@ -1,6 +1,6 @@
 -- What the types say of a ledger that is passed by value: owning it tells how many cells there are, and their range. Assumes nothing.
-use mathlib.Core.List.{List, [], ◌∷◌, map, map-id}
-use mathlib.Core.Path.{◌≡◌, subst}
+use mathlib.Core.List.{List, [], ◌∷◌}
+use mathlib.Core.Path.{◌≡◌}
 use Prim.Native.Nat.{ℕ, zero, suc, ◌<◌, ◌^◌}
 use lib.ListN.{length, get_or}
 use lib.Pow.{pow_pos}
@@ -23,11 +23,11 @@ each_fits w (x ∷ xs) (u ∷ us) h zero = h.0.1
 each_fits w (x ∷ xs) (u ∷ us) h (suc i) = each_fits w xs us h.1 i
 
 -- a field that is an array of numbers: it is owned as the list of its elements' values, which are the elements
-field-long : (w : Width) (n : ℕ) (xs : List ℕ) (vs : List Val) → Is (Array (UInt w) n) (map (λ x. x) xs) vs → length xs ≡ n
-field-long w n xs vs h = subst (λ (ys : List ℕ). length ys ≡ n) (map-id xs) h.1.0.1
+field-long : (w : Width) (n : ℕ) (xs : List ℕ) (vs : List Val) → Is (Array (UInt w) n) xs vs → length xs ≡ n
+field-long w n xs vs h = h.1.0.1
 
-field_fits : (w : Width) (n : ℕ) (xs : List ℕ) (vs : List Val) → Is (Array (UInt w) n) (map (λ x. x) xs) vs → (i : ℕ) → get_or xs i 0 < 2 ^ bits w
-field_fits w n xs vs h i = subst (λ (ys : List ℕ). get_or ys i 0 < 2 ^ bits w) (map-id xs) (each_fits w (map (λ x. x) xs) h.0 h.1.1 i)
+field_fits : (w : Width) (n : ℕ) (xs : List ℕ) (vs : List Val) → Is (Array (UInt w) n) xs vs → (i : ℕ) → get_or xs i 0 < 2 ^ bits w
+field_fits w n xs vs h i = each_fits w xs h.0 h.1.1 i
 
 -- for a parameter that is a ledger by value: `held _ _ z.good.0`, with z the record at the function's entry
 pub held : (l : Ledger) (vs : List Val) → Is (row the_type) l vs → Held l.cells

@@ -28,7 +28,7 @@ pub const NO_TIME: u64 = 0xFFFF_FFFF;
 
 // A row: its counter's key, which is SAC, SIC, the octet of 015 and TYPE, the life count, the last midnight reading, and the time of the last
 // from-midnight entry, in 1/128 s, or NO_TIME.
-#[derive(Drop)]
+#[derive(Clone, Copy)]
 pub struct Row {
     pub key: u64,
     pub life: u64,

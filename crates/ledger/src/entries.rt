@@ -5,7 +5,7 @@ ghost use Rattle.ledger.specs.Reports.{first_key, entry_of, as_entry};
 use blocks::statistics::Statistics;
 
 // An entry: its counter's key, its report's time, REF and count.
-#[derive(Drop)]
+#[derive(Clone, Copy)]
 pub struct Entry {
     pub key: u64,
     pub time: u64,

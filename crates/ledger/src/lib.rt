@@ -1,3 +1,5 @@
+#![tactic(auto)]
+
 // The ledger: rows of counters, posting.
 ghost use Rattle.std.specs.Prelude.{◌≡◌, []};
 ghost use Rattle.ledger.specs.Ledgers.{cells_of};

@@ -3,7 +3,7 @@ ghost use Rattle.std.specs.Prelude.{◌≡◌, ◌<◌, ◌^◌};
 ghost use Rattle.pages.specs.Pages.{row_wide, tables_of, head_long, page_length};
 
 // A table has some columns of every row: the keys; the life counts and the readings; the times.
-#[derive(Drop)]
+#[derive(Clone, Copy)]
 pub enum Table {
     Keys,
     Readings,
@@ -11,7 +11,7 @@ pub enum Table {
 }
 
 // An old page has keys and readings, a new one times too.
-#[derive(Drop)]
+#[derive(Clone, Copy)]
 pub enum Form {
     Old,
     New,

@@ -1,3 +1,5 @@
+#![tactic(auto)]
+
 // The ledger as a page, and a page of one form turned into the other.
 ghost use Rattle.std.specs.Prelude.{◌≡◌, length};
 ghost use Rattle.octets.specs.Outcomes.{within, answer_of, output_of, listed_written, outcome_listed};

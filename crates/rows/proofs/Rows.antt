@@ -185,7 +185,9 @@ module _ (rule : Row → Entry → Row) (keeps-key : (r : Row) (e : Entry) → (
   row-all rows [] s k = refl
   row-all rows (e ∷ es) s k =
       row-all (add_entry rule rows e) es (sorted_add e rows s) k
-      ∙ test (eqb e.key k) (λ t. rw (t, ← (eqb-true e.key k t), row-own e rows s))
+      ∙ test (eqb e.key k)
+      (λ t. subst (λ j. tally rule j (row_of (add_entry rule rows e) j) (of_key j es) ≡ tally rule j (row_of rows j) (of_key j (e ∷ es)))
+      (eqb-true e.key k t) (rw (row-own e rows s, eq-eqb e.key e.key refl)))
       (λ f. rw (f, row_other e rows k (eqb-false e.key k f)))
 
   -- a key has a row after an entry if it had one, or is the entry's

@@ -1,0 +1,6 @@
+-- `note_rows`: the loop's invariant is that what is noted is so, and that the keys from the place on are not below the report's first. Assumes nothing.
+use Rattle.ledger.proofs.KnownLaws.{note_none}
+use Rattle.ledger.proofs.post.note_rows.Goals as goal
+
+pub loop-place-init : goal.loop-place-init
+loop-place-init c = note_none _ c.requires.0 _ _ c.requires.2 _ c.find-place.ensures
