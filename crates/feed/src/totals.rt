@@ -5,7 +5,7 @@ ghost use Rattle.feed.specs.Totals.{up, answered_one, refused_one, block_done};
 use octets::refusal;
 
 // Blocks accepted and refused, records posted, and records answered 14 or 15. A count stays at 2^64 - 1.
-#[derive(Drop)]
+#[derive(Clone, Copy)]
 pub struct Totals {
     pub accepted: u64,
     pub refused: u64,

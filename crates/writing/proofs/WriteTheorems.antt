@@ -10,7 +10,7 @@ use lib.Dec.{eqb}
 use lib.ListN.{length, length-append}
 use Rattle.octets.specs.Choice.{pick}
 use Rattle.octets.specs.Numbers.{Octets, number}
-use Rattle.layouts.specs.Categories.{category, known}
+use Rattle.layouts.specs.Categories.{category}
 use Rattle.layouts.proofs.Parsed.{and_yes}
 use Rattle.blocks.specs.Records.{layout_of, specification_refusal, put_rec}
 use Rattle.blocks.specs.Blocks.{Block, all, block_of, put_recs, put_block}

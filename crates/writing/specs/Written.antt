@@ -4,7 +4,7 @@ use Rattle.octets.specs.Choice.{pick}
 use Rattle.octets.specs.Numbers.{octets}
 use Rattle.octets.specs.Outcomes.{Outcome, no, puts}
 use Rattle.layouts.specs.Formats.{Parsed, refused, got}
-use Rattle.layouts.specs.Categories.{Category, category}
+use Rattle.layouts.specs.Categories.{Category}
 use Rattle.blocks.specs.Records.{Rec}
 use Rattle.blocks.specs.Blocks.{Block, wrong, all, block_of, put_block}
 use Rattle.blocks.specs.Offsets.{record_at}

@@ -1,3 +1,5 @@
+#![tactic(auto)]
+
 // Records written in normal form: one as a block, and all of a block rewritten.
 pub mod block;
 pub mod record;

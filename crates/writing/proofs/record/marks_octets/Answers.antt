@@ -3,32 +3,28 @@ use mathlib.Core.Path.{sym, ap, ◌∙◌}
 use Prim.Native.Nat.{suc, ◌/◌}
 use native.Mathlib.Omega.{arith}
 use Rattle.writing.proofs.MarksWritten.{one-long, more-long}
-use Rattle.writing.proofs.record.marks_octets.Statement.{statement}
-use Rattle.writing.proofs.record.marks_octets.Tie as tie
+use Rattle.writing.proofs.record.marks_octets.Goals as goal
 
-returns : tie.Need-returns
-returns c = sym (one-long 3 c.before.args.marks c.if1.true)
+pub returns-in-0-to-127 : goal.returns-in-0-to-127
+returns-in-0-to-127 c = sym (one-long 3 c.args.marks (omega arith))
 
-returns-2 : tie.Need-returns-2
-returns-2 c =
-    let m = c.before.before.args.marks in
+pub returns-in-128-to-16383 : goal.returns-in-128-to-16383
+returns-in-128-to-16383 c =
+    let m = c.args.marks in
     sym (more-long 3 m (omega arith) (omega arith) ∙ ap suc (one-long 2 (m / 128) (omega arith)))
 
-returns-3 : tie.Need-returns-3
-returns-3 c =
-    let m = c.before.before.before.args.marks in
+pub returns-in-16384-to-2097151 : goal.returns-in-16384-to-2097151
+returns-in-16384-to-2097151 c =
+    let m = c.args.marks in
     sym
     (more-long 3 m (omega arith) (omega arith)
     ∙ ap suc (more-long 2 (m / 128) (omega arith) (omega arith) ∙ ap suc (one-long 1 (m / 128 / 128) (omega arith))))
 
-returns-4 : tie.Need-returns-4
-returns-4 c =
-    let m = c.before.before.before.args.marks in
+pub returns-in_default : goal.returns-in_default
+returns-in_default c =
+    let m = c.args.marks in
     sym
     (more-long 3 m (omega arith) (omega arith)
     ∙ ap suc
     (more-long 2 (m / 128) (omega arith) (omega arith)
     ∙ ap suc (more-long 1 (m / 128 / 128) (omega arith) (omega arith) ∙ ap suc (one-long 0 (m / 128 / 128 / 128) (omega arith)))))
-
-pub marks-octets-spec : {M : Type 1} → statement M
-marks-octets-spec = tie.close (tie.spec returns returns-2 returns-3 returns-4)
