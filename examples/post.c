@@ -1,7 +1,7 @@
 /* Reads a block, steps over its records, and posts its statistics reports to the ledger of a page; then posts a feed,
  * which comes in two pieces, to a fresh one; then turns an old page into a new one.
  *
- *     rt staticlib doors
+ *     ./libdoors
  *     cc -O2 -Iinclude -o post examples/post.c target/staticlib/libdoors.a
  */
 #include <inttypes.h>

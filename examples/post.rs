@@ -1,7 +1,7 @@
 // Reads a block, steps over its records, and posts its statistics reports to the ledger of a page; then posts a feed,
 // which comes in two pieces, to a fresh one; then turns an old page into a new one.
 //
-//     rt staticlib doors
+//     ./libdoors
 //     rustc --edition 2021 -O -L target/staticlib -o post examples/post.rs
 
 /// The box, as include/wear.h has it: an answer is the refusal number, and 0 becomes Ok.

@@ -1,4 +1,4 @@
-/* The collector box for C and for what can call C: link with target/staticlib/libdoors.a (made by `rt staticlib doors`).
+/* The collector box for C and for what can call C: link with target/staticlib/libdoors.a (made by `./libdoors`).
  *
  * Every function of the library but wear_version answers a refusal number, 0 where it accepts. A slice is a pointer and a length; the pointer may be NULL
  * exactly where the length is 0. Nothing outside the slices is read or written, and nothing is kept. Results go into 64-bit cells that the

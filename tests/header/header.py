@@ -9,6 +9,7 @@ ROOT = os.path.normpath(os.path.join(os.path.dirname(os.path.abspath(__file__)),
 HEADER = 'include/wear.h'
 REFUSALS = 'crates/octets/src/refusal.rt'
 DOORS = 'crates/doors/src'
+EXPORTS = 'crates/doors_c/src'
 CELLS = DOORS + '/cell.rt'
 WORDS = 'crates/text/src/refusals.rt'
 EXAMPLE = 'examples/post.rs'
@@ -148,14 +149,14 @@ def values_in(path, others=()):
     return {name: value_of(expression, {**dict(others), **constants}) for name, expression in constants.items()}
 
 
-def paths_of_doors():
-    paths = sorted(glob.glob(os.path.join(ROOT, DOORS, '**', '*.rt'), recursive=True))
+def paths_of(folder):
+    paths = sorted(glob.glob(os.path.join(ROOT, folder, '**', '*.rt'), recursive=True))
     return [os.path.relpath(path, ROOT) for path in paths]
 
 
 def values_in_doors():
     """The constants of each file of the doors, with their values."""
-    paths = paths_of_doors()
+    paths = paths_of(DOORS)
     every = {name: expression for path in paths for name, expression in constants_of(read(path)).items()}
     return {path: values_in(path, every) for path in paths}
 
@@ -208,13 +209,14 @@ def hold_functions(found, where):
 
 
 def hold_all_functions():
-    """The doors' functions, each of which the header declares, and which are all that it declares."""
-    found = {}
-    for path in paths_of_doors():
-        found.update(functions_in(read(path), OF_DOORS))
-    for name in sorted(set(header_functions()) - set(found)):
-        differ('%s is in wear.h; %s has no such function', name, DOORS)
-    hold_functions(found, DOORS)
+    """The doors' functions and their exports, each of which the header declares, and which are all that it declares."""
+    for folder in DOORS, EXPORTS:
+        found = {}
+        for path in paths_of(folder):
+            found.update(functions_in(read(path), OF_DOORS))
+        for name in sorted(set(header_functions()) - set(found)):
+            differ('%s is in wear.h; %s has no such function', name, folder)
+        hold_functions(found, folder)
 
 
 def hold_page(values, fresh):

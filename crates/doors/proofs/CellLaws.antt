@@ -22,7 +22,7 @@ use Rattle.writing.specs.Judged.{record_refusal}
 use Rattle.writing.specs.Written.{write_of}
 use Rattle.doors.specs.Cell as wear
 use Rattle.doors.specs.Cells.{cell, record_cells, record_of, octet_fits, extension_fits, item_fits, all_fit, cells_refusal}
-use Rattle.doors.specs.Answers.{cellsWritten}
+use Rattle.doors.specs.Answers.{cells_written}
 
 -- the bits of a cell's place: 32 for marks and time, else 8; offsets and counts, which come last, have all of a cell
 abbrev pub bits : ℕ → ℕ
@@ -67,18 +67,18 @@ module _ (t : Record) (held : Held t) where
         low wear.pss refl,
         low wear.sttn refl,
         low wear.report refl,
-        low wear.gsNogo refl,
-        low wear.gsOdp refl,
-        low wear.gsOxt refl,
-        low wear.gsMsc refl,
-        low wear.gsTsv refl,
-        low wear.gsSpo refl,
-        low wear.gsRn refl,
-        low wear.gsExtended refl,
+        low wear.gs_nogo refl,
+        low wear.gs_odp refl,
+        low wear.gs_oxt refl,
+        low wear.gs_msc refl,
+        low wear.gs_tsv refl,
+        low wear.gs_spo refl,
+        low wear.gs_rn refl,
+        low wear.gs_extended refl,
         low wear.gssp refl,
         low wear.rp refl,
         low wear.sc refl,
-        low wear.scExtended refl,
+        low wear.sc_extended refl,
         low wear.ssrp refl,
         low wear.range refl,
         low wear.stat refl,
@@ -109,18 +109,18 @@ module _ (t : Record) (held : Held t) where
   item-held Report = small wear.report refl refl
   item-held Station =
       rw (
-        small wear.gsNogo refl refl,
-        small wear.gsOdp refl refl,
-        small wear.gsOxt refl refl,
-        small wear.gsMsc refl refl,
-        small wear.gsTsv refl refl,
-        small wear.gsSpo refl refl,
-        small wear.gsRn refl refl,
+        small wear.gs_nogo refl refl,
+        small wear.gs_odp refl refl,
+        small wear.gs_oxt refl refl,
+        small wear.gs_msc refl refl,
+        small wear.gs_tsv refl refl,
+        small wear.gs_spo refl refl,
+        small wear.gs_rn refl refl,
       )
-      (extension wear.gsExtended wear.gssp (small wear.gsExtended refl refl) (small wear.gssp refl refl))
+      (extension wear.gs_extended wear.gssp (small wear.gs_extended refl refl) (small wear.gssp refl refl))
   item-held Configuration =
       rw (small wear.rp refl refl, small wear.sc refl refl)
-      (extension wear.scExtended wear.ssrp (small wear.scExtended refl refl) (small wear.ssrp refl refl))
+      (extension wear.sc_extended wear.ssrp (small wear.sc_extended refl refl) (small wear.ssrp refl refl))
   item-held Range = small wear.range refl refl
   item-held Status = small wear.stat refl refl
   item-held Statistics = refl
@@ -142,6 +142,6 @@ module _ (t : Record) (held : Held t) where
       rw (marks-refused _ t.marks small, lt-leb (2 ^ 32) t.marks small, all_held (flags_of 32 t.marks) (category t.category).fields)
 
   -- Writing a record's cells is writing the record.
-  pub write_taken : (s : List ℕ) → cellsWritten cs s ≡ write_of s t
-  unfolding cellsWritten write_of record_refusal
+  pub write_taken : (s : List ℕ) → cells_written cs s ≡ write_of s t
+  unfolding cells_written write_of record_refusal
   write_taken s = rw (cells_record, by_record) (first_tests (known t.category) (marks_refusal (category t.category) t.marks) _ _)

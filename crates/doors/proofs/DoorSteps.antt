@@ -23,19 +23,19 @@ use Rattle.feed.specs.Runs.{state, Run, run_over, zeros, done_of}
 use Rattle.feed.specs.declared.run.Done.{Done}
 use Rattle.doors.specs.Cell.{feed_cell_count}
 use Rattle.doors.specs.Cells.{record_of, cells_refusal}
-use Rattle.doors.specs.Answers.{isFew, refusalOr, cellsOr, putRefusal, putOutput, cellsWritten, pagePosted}
+use Rattle.doors.specs.Answers.{is_few, refusal_or, cells_or, put_refusal, put_output, cells_written, page_posted}
 use Rattle.doors.specs.Feeds.{feed_run, page_fed, done_cells, feed_cells, fed_by, fed_of}
 use Rattle.doors.specs.declared.feeds.Fed.{Fed}
 use Rattle.doors.specs.declared.feeds.Fed.TheVariants as fed
 
 pub too_few : (k : ℕ) (l : List ℕ) (n : ℕ) (values : List ℕ) → length l < k
-    → (output_too_short ≡ refusalOr (isFew k l) n) × (l ≡ cellsOr (isFew k l) l values)
+    → (output_too_short ≡ refusal_or (is_few k l) n) × (l ≡ cells_or (is_few k l) l values)
 too_few k l n values h = rw (lt-ltb (length l) k h) (refl, refl)
 
 -- an answer in its cases: what is listed of it goes into the cells
 module _ {A B : Type 0} (listed : A → B) (refusal : B → ℕ) (values : B → List ℕ) where
   pub filled : (k : ℕ) (l l' : List ℕ) {r a : A} {b : B} → k ≤ length l → r ≡ a → listed r ≡ b → l' ≡ laid l 0 (values (listed a))
-      → (refusal (listed a) ≡ refusalOr (isFew k l) (refusal b)) × (l' ≡ cellsOr (isFew k l) l (values b))
+      → (refusal (listed a) ≡ refusal_or (is_few k l) (refusal b)) × (l' ≡ cells_or (is_few k l) l (values b))
   filled k l l' h e is done =
       let same = rw e at is in
       rw (le-ltb (length l) k h, ← same) (refl, done)
@@ -45,7 +45,7 @@ module _ (few : Bool) (out cells : List ℕ) (x : Outcome) (values : List ℕ) w
   abbrev Puts : ℕ → List ℕ → List ℕ → Type 0
   Puts r out' cells' =
       let y = within (length out) x in
-      (r ≡ putRefusal few y) × (out' ≡ putOutput few out y) × (cells' ≡ cellsOr few cells values)
+      (r ≡ put_refusal few y) × (out' ≡ put_output few out y) × (cells' ≡ cells_or few cells values)
 
   pub put-few : few ≡ true → Puts output_too_short out cells
   put-few e = rw e (refl, refl, refl)
@@ -65,28 +65,28 @@ put_all few out size x e y is o said put =
 
 -- the cells are refused, or their record is written
 module _ (cs s : List ℕ) {n : ℕ} (judged : n ≡ cells_refusal cs) where
-  pub cells_refused : (n ≡ 0 → ⊥) → cellsWritten cs s ≡ no n
-  unfolding cellsWritten
+  pub cells_refused : (n ≡ 0 → ⊥) → cells_written cs s ≡ no n
+  unfolding cells_written
   cells_refused h = rw (← judged, ne_eqb n 0 h)
 
-  pub cells_taken : n ≡ 0 → {t : Record} → t ≡ record_of cs → cellsWritten cs s ≡ write_of s t
-  unfolding cellsWritten
+  pub cells_taken : n ≡ 0 → {t : Record} → t ≡ record_of cs → cells_written cs s ≡ write_of s t
+  unfolding cells_written
   cells_taken h e = rw (← judged, eq-eqb n 0 h, e)
 
 -- the page is refused, or the posting, or the ledger is stored
 module _ (page s : List ℕ) (k : ℕ) {a : Answer} (loaded : a ≡ load_of new page) where
-  pub load_refused : (a.refusal ≡ 0 → ⊥) → pagePosted page s k ≡ no a.refusal
-  unfolding pagePosted
+  pub load_refused : (a.refusal ≡ 0 → ⊥) → page_posted page s k ≡ no a.refusal
+  unfolding page_posted
   load_refused h = rw (← loaded, ne_eqb a.refusal 0 h)
 
   module _ (good : a.refusal ≡ 0) {b : Answer} (posted : b ≡ post_of a.ledger.cells s k) where
-    pub post_refused : (b.refusal ≡ 0 → ⊥) → pagePosted page s k ≡ no b.refusal
-    unfolding pagePosted
+    pub post_refused : (b.refusal ≡ 0 → ⊥) → page_posted page s k ≡ no b.refusal
+    unfolding page_posted
     post_refused h = rw (← loaded, eq-eqb a.refusal 0 good, ← posted, ne_eqb b.refusal 0 h)
 
-    pub post_stored : b.refusal ≡ 0 → pagePosted page s k ≡ store_of new b.ledger.cells
-    unfolding pagePosted
-    post_stored h = rw (← loaded, eq-eqb a.refusal 0 good, ← posted, eq-eqb b.refusal 0 h)
+    pub post_stored_lem : b.refusal ≡ 0 → page_posted page s k ≡ store_of new b.ledger.cells
+    unfolding page_posted
+    post_stored_lem h = rw (← loaded, eq-eqb a.refusal 0 good, ← posted, eq-eqb b.refusal 0 h)
 
 -- a feed: the page is refused, or the ledger that the run leaves is stored
 module _ (page s : List ℕ) (over : Bool) (l : List ℕ) {a : Answer} (loaded : a ≡ load_of new page) where

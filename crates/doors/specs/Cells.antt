@@ -78,22 +78,22 @@ module _ (cs : List ℕ) where
     sdps = record { nogo = octet wear.nogo; ovl = octet wear.ovl; tsv = octet wear.tsv; pss = octet wear.pss; sttn = octet wear.sttn };
     report = octet wear.report;
     station = record {
-      nogo = octet wear.gsNogo;
-      odp = octet wear.gsOdp;
-      oxt = octet wear.gsOxt;
-      msc = octet wear.gsMsc;
-      tsv = octet wear.gsTsv;
-      spo = octet wear.gsSpo;
-      rn = octet wear.gsRn;
-      extended = octet wear.gsExtended;
+      nogo = octet wear.gs_nogo;
+      odp = octet wear.gs_odp;
+      oxt = octet wear.gs_oxt;
+      msc = octet wear.gs_msc;
+      tsv = octet wear.gs_tsv;
+      spo = octet wear.gs_spo;
+      rn = octet wear.gs_rn;
+      extended = octet wear.gs_extended;
       gssp = record { 0 = octet wear.gssp };
     };
-    configuration = record { rp = record { 0 = octet wear.rp }; sc = octet wear.sc; extended = octet wear.scExtended; ssrp = record { 0 = octet wear.ssrp } };
+    configuration = record { rp = record { 0 = octet wear.rp }; sc = octet wear.sc; extended = octet wear.sc_extended; ssrp = record { 0 = octet wear.ssrp } };
     range = octet wear.range;
     status = octet wear.stat;
     entries = record { at = cell wear.entries_at; count = cell wear.entries };
-    expansion = record { at = cell wear.reAt; count = cell wear.reOctets };
-    purpose = record { at = cell wear.spAt; count = cell wear.spOctets };
+    expansion = record { at = cell wear.re_at; count = cell wear.re_octets };
+    purpose = record { at = cell wear.sp_at; count = cell wear.sp_octets };
   }
 
   -- Whether the cells of an item fit their places: 8 bits for all, 32 for the time, 64 for offsets and counts, which every cell has. The
@@ -120,12 +120,12 @@ module _ (cs : List ℕ) where
   item_fits Sdps = octet_fits wear.nogo && (octet_fits wear.ovl && (octet_fits wear.tsv && (octet_fits wear.pss && octet_fits wear.sttn)))
   item_fits Report = octet_fits wear.report
   item_fits Station =
-      octet_fits wear.gsNogo
-      && (octet_fits wear.gsOdp
-      && (octet_fits wear.gsOxt
-      && (octet_fits wear.gsMsc
-      && (octet_fits wear.gsTsv && (octet_fits wear.gsSpo && (octet_fits wear.gsRn && extension_fits wear.gsExtended wear.gssp))))))
-  item_fits Configuration = octet_fits wear.rp && (octet_fits wear.sc && extension_fits wear.scExtended wear.ssrp)
+      octet_fits wear.gs_nogo
+      && (octet_fits wear.gs_odp
+      && (octet_fits wear.gs_oxt
+      && (octet_fits wear.gs_msc
+      && (octet_fits wear.gs_tsv && (octet_fits wear.gs_spo && (octet_fits wear.gs_rn && extension_fits wear.gs_extended wear.gssp))))))
+  item_fits Configuration = octet_fits wear.rp && (octet_fits wear.sc && extension_fits wear.sc_extended wear.ssrp)
   item_fits Range = octet_fits wear.range
   item_fits Status = octet_fits wear.stat
   item_fits Statistics = true

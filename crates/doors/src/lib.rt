@@ -1,3 +1,5 @@
+#![tactic(auto)]
+
 // The doors for C and Rust, as include/wear.h declares them. Each but the version's answers a refusal number; values go into 64-bit cells that the
 // caller lends, and where these are too few the answer is 12 before all else.
 ghost use Rattle.std.specs.Prelude.{◌||◌, [], ◌∷◌, ◌≡◌, ◌+◌, ◌≤◌, length};
@@ -8,7 +10,7 @@ ghost use Rattle.blocks.specs.Steps.{step_listed, entry_listed};
 ghost use Rattle.writing.specs.Written.{rewrite_of};
 ghost use Rattle.pages.specs.Pages.{old, new, tables_of, turn_of};
 ghost use Rattle.doors.specs.Cell.{cell_count, feed_cell_count};
-ghost use Rattle.doors.specs.Answers.{version, isFew, refusalOr, cellsOr, readCells, stepCells, entryCells, putRefusal, putOutput, putLength, cellsWritten, pagePosted};
+ghost use Rattle.doors.specs.Answers.{version, is_few, refusal_or, cells_or, read_cells, step_cells, entry_cells, put_refusal, put_output, put_length, cells_written, page_posted};
 ghost use Rattle.doors.specs.Feeds.{is_over, feed_run, page_fed, feed_cells};
 
 pub mod cell;
@@ -46,18 +48,16 @@ fn lay(cells: &mut [u64], at: usize, values: &[u64])
 }
 
 // The version of these doors, to be compared with the header's.
-#[unsafe(no_mangle)]
-pub extern "C" fn wear_version() -> u32
+pub fn wear_version() -> u32
     ensures { result ≡ version }
 {
     VERSION
 }
 
 // Offset, LEN, count of records.
-#[unsafe(no_mangle)]
-pub extern "C" fn wear_read(s: &[u8], cells: &mut [u64]) -> u32
-    ensures { (result ≡ refusalOr (isFew 3 cells.old) (read_listed s.now).refusal)
-        × (cells.new ≡ cellsOr (isFew 3 cells.old) cells.old (readCells (read_listed s.now))) }
+pub fn wear_read(s: &[u8], cells: &mut [u64]) -> u32
+    ensures { (result ≡ refusal_or (is_few 3 cells.old) (read_listed s.now).refusal)
+        × (cells.new ≡ cells_or (is_few 3 cells.old) cells.old (read_cells (read_listed s.now))) }
 {
     if cells.len() < 3 {
         return refusal::OUTPUT_TOO_SHORT as u32;
@@ -78,10 +78,9 @@ pub extern "C" fn wear_read(s: &[u8], cells: &mut [u64]) -> u32
 }
 
 // Offset, next start, and the record's cells.
-#[unsafe(no_mangle)]
-pub extern "C" fn wear_step(s: &[u8], start: usize, cells: &mut [u64]) -> u32
-    ensures { (result ≡ refusalOr (isFew (2 + cell_count) cells.old) (step_listed s.now start).refusal)
-        × (cells.new ≡ cellsOr (isFew (2 + cell_count) cells.old) cells.old (stepCells (step_listed s.now start))) }
+pub fn wear_step(s: &[u8], start: usize, cells: &mut [u64]) -> u32
+    ensures { (result ≡ refusal_or (is_few (2 + cell_count) cells.old) (step_listed s.now start).refusal)
+        × (cells.new ≡ cells_or (is_few (2 + cell_count) cells.old) cells.old (step_cells (step_listed s.now start))) }
 {
     if cells.len() < STEP_CELLS {
         return refusal::OUTPUT_TOO_SHORT as u32;
@@ -105,10 +104,9 @@ pub extern "C" fn wear_step(s: &[u8], start: usize, cells: &mut [u64]) -> u32
 }
 
 // Offset, and the entry's three values.
-#[unsafe(no_mangle)]
-pub extern "C" fn wear_entry(s: &[u8], start: usize, k: usize, cells: &mut [u64]) -> u32
-    ensures { (result ≡ refusalOr (isFew 4 cells.old) (entry_listed s.now start k).refusal)
-        × (cells.new ≡ cellsOr (isFew 4 cells.old) cells.old (entryCells (entry_listed s.now start k))) }
+pub fn wear_entry(s: &[u8], start: usize, k: usize, cells: &mut [u64]) -> u32
+    ensures { (result ≡ refusal_or (is_few 4 cells.old) (entry_listed s.now start k).refusal)
+        × (cells.new ≡ cells_or (is_few 4 cells.old) cells.old (entry_cells (entry_listed s.now start k))) }
 {
     if cells.len() < 4 {
         return refusal::OUTPUT_TOO_SHORT as u32;
@@ -151,11 +149,10 @@ fn put_out(written: Written, size: &mut [u64]) -> u32
 }
 
 // A record's cells as a block; entries and content from the source.
-#[unsafe(no_mangle)]
-pub extern "C" fn wear_write(cells: &[u64], source: &[u8], out: &mut [u8], size: &mut [u64]) -> u32
-    ensures { (result ≡ putRefusal (isFew cell_count cells.now || isFew 1 size.old) (within (length out.old) (cellsWritten cells.now source.now)))
-        × (out.new ≡ putOutput (isFew cell_count cells.now || isFew 1 size.old) out.old (within (length out.old) (cellsWritten cells.now source.now)))
-        × (size.new ≡ putLength (isFew cell_count cells.now || isFew 1 size.old) size.old (within (length out.old) (cellsWritten cells.now source.now))) }
+pub fn wear_write(cells: &[u64], source: &[u8], out: &mut [u8], size: &mut [u64]) -> u32
+    ensures { (result ≡ put_refusal (is_few cell_count cells.now || is_few 1 size.old) (within (length out.old) (cells_written cells.now source.now)))
+        × (out.new ≡ put_output (is_few cell_count cells.now || is_few 1 size.old) out.old (within (length out.old) (cells_written cells.now source.now)))
+        × (size.new ≡ put_length (is_few cell_count cells.now || is_few 1 size.old) size.old (within (length out.old) (cells_written cells.now source.now))) }
 {
     if cells.len() < cell::CELLS {
         return refusal::OUTPUT_TOO_SHORT as u32;
@@ -171,11 +168,10 @@ pub extern "C" fn wear_write(cells: &[u64], source: &[u8], out: &mut [u8], size:
 }
 
 // A block in normal form.
-#[unsafe(no_mangle)]
-pub extern "C" fn wear_rewrite(s: &[u8], out: &mut [u8], size: &mut [u64]) -> u32
-    ensures { (result ≡ putRefusal (isFew 1 size.old) (within (length out.old) (rewrite_of s.now)))
-        × (out.new ≡ putOutput (isFew 1 size.old) out.old (within (length out.old) (rewrite_of s.now)))
-        × (size.new ≡ putLength (isFew 1 size.old) size.old (within (length out.old) (rewrite_of s.now))) }
+pub fn wear_rewrite(s: &[u8], out: &mut [u8], size: &mut [u64]) -> u32
+    ensures { (result ≡ put_refusal (is_few 1 size.old) (within (length out.old) (rewrite_of s.now)))
+        × (out.new ≡ put_output (is_few 1 size.old) out.old (within (length out.old) (rewrite_of s.now)))
+        × (size.new ≡ put_length (is_few 1 size.old) size.old (within (length out.old) (rewrite_of s.now))) }
 {
     if size.len() < 1 {
         return refusal::OUTPUT_TOO_SHORT as u32;
@@ -185,9 +181,9 @@ pub extern "C" fn wear_rewrite(s: &[u8], out: &mut [u8], size: &mut [u64]) -> u3
 
 // A page of one form as a page of the other.
 fn turned_page(page: &[u8], from: Form, out: &mut [u8], to: Form, size: &mut [u64]) -> u32
-    ensures { (result ≡ putRefusal (isFew 1 size.old) (within (length out.old) (turn_of (tables_of from) (tables_of to) page.now)))
-        × (out.new ≡ putOutput (isFew 1 size.old) out.old (within (length out.old) (turn_of (tables_of from) (tables_of to) page.now)))
-        × (size.new ≡ putLength (isFew 1 size.old) size.old (within (length out.old) (turn_of (tables_of from) (tables_of to) page.now))) }
+    ensures { (result ≡ put_refusal (is_few 1 size.old) (within (length out.old) (turn_of (tables_of from) (tables_of to) page.now)))
+        × (out.new ≡ put_output (is_few 1 size.old) out.old (within (length out.old) (turn_of (tables_of from) (tables_of to) page.now)))
+        × (size.new ≡ put_length (is_few 1 size.old) size.old (within (length out.old) (turn_of (tables_of from) (tables_of to) page.now))) }
 {
     if size.len() < 1 {
         return refusal::OUTPUT_TOO_SHORT as u32;
@@ -196,30 +192,28 @@ fn turned_page(page: &[u8], from: Form, out: &mut [u8], to: Form, size: &mut [u6
 }
 
 // An old page as a new one with all times unknown.
-#[unsafe(no_mangle)]
-pub extern "C" fn wear_page_to_new(page: &[u8], out: &mut [u8], size: &mut [u64]) -> u32
-    ensures { (result ≡ putRefusal (isFew 1 size.old) (within (length out.old) (turn_of old new page.now)))
-        × (out.new ≡ putOutput (isFew 1 size.old) out.old (within (length out.old) (turn_of old new page.now)))
-        × (size.new ≡ putLength (isFew 1 size.old) size.old (within (length out.old) (turn_of old new page.now))) }
+pub fn wear_page_to_new(page: &[u8], out: &mut [u8], size: &mut [u64]) -> u32
+    ensures { (result ≡ put_refusal (is_few 1 size.old) (within (length out.old) (turn_of old new page.now)))
+        × (out.new ≡ put_output (is_few 1 size.old) out.old (within (length out.old) (turn_of old new page.now)))
+        × (size.new ≡ put_length (is_few 1 size.old) size.old (within (length out.old) (turn_of old new page.now))) }
 {
     turned_page(page, Form::Old, out, Form::New, size)
 }
 
 // A new page as an old one, without the times.
-#[unsafe(no_mangle)]
-pub extern "C" fn wear_page_to_old(page: &[u8], out: &mut [u8], size: &mut [u64]) -> u32
-    ensures { (result ≡ putRefusal (isFew 1 size.old) (within (length out.old) (turn_of new old page.now)))
-        × (out.new ≡ putOutput (isFew 1 size.old) out.old (within (length out.old) (turn_of new old page.now)))
-        × (size.new ≡ putLength (isFew 1 size.old) size.old (within (length out.old) (turn_of new old page.now))) }
+pub fn wear_page_to_old(page: &[u8], out: &mut [u8], size: &mut [u64]) -> u32
+    ensures { (result ≡ put_refusal (is_few 1 size.old) (within (length out.old) (turn_of new old page.now)))
+        × (out.new ≡ put_output (is_few 1 size.old) out.old (within (length out.old) (turn_of new old page.now)))
+        × (size.new ≡ put_length (is_few 1 size.old) size.old (within (length out.old) (turn_of new old page.now))) }
 {
     turned_page(page, Form::New, out, Form::Old, size)
 }
 
 // A record of a block posted to the ledger of a page, and the ledger stored: load's refusal, post's, store's.
 fn posted_page(page: &[u8], s: &[u8], k: usize, out: &mut [u8]) -> Written
-    ensures { (out.new ≡ output_of out.old (within (length out.old) (pagePosted page.now s.now k)))
-        × (result ≡ answer_of (within (length out.old) (pagePosted page.now s.now k)))
-        × (listed_written result ≡ outcome_listed (within (length out.old) (pagePosted page.now s.now k))) }
+    ensures { (out.new ≡ output_of out.old (within (length out.old) (page_posted page.now s.now k)))
+        × (result ≡ answer_of (within (length out.old) (page_posted page.now s.now k)))
+        × (listed_written result ≡ outcome_listed (within (length out.old) (page_posted page.now s.now k))) }
 {
     let loaded = load(page);
     if loaded.refusal != refusal::ACCEPTED {
@@ -235,17 +229,10 @@ fn posted_page(page: &[u8], s: &[u8], k: usize, out: &mut [u8]) -> Written
 }
 
 // Load, post, store: the ledger goes in and out as a page.
-#[unsafe(no_mangle)]
-pub extern "C" fn wear_post(
-    page: &[u8],
-    s: &[u8],
-    k: usize,
-    out: &mut [u8],
-    size: &mut [u64],
-) -> u32
-    ensures { (result ≡ putRefusal (isFew 1 size.old) (within (length out.old) (pagePosted page.now s.now k)))
-        × (out.new ≡ putOutput (isFew 1 size.old) out.old (within (length out.old) (pagePosted page.now s.now k)))
-        × (size.new ≡ putLength (isFew 1 size.old) size.old (within (length out.old) (pagePosted page.now s.now k))) }
+pub fn wear_post(page: &[u8], s: &[u8], k: usize, out: &mut [u8], size: &mut [u64]) -> u32
+    ensures { (result ≡ put_refusal (is_few 1 size.old) (within (length out.old) (page_posted page.now s.now k)))
+        × (out.new ≡ put_output (is_few 1 size.old) out.old (within (length out.old) (page_posted page.now s.now k)))
+        × (size.new ≡ put_length (is_few 1 size.old) size.old (within (length out.old) (page_posted page.now s.now k))) }
 {
     if size.len() < 1 {
         return refusal::OUTPUT_TOO_SHORT as u32;
@@ -254,17 +241,10 @@ pub extern "C" fn wear_post(
 }
 
 // The blocks at hand of a feed posted to the ledger of a page, and the ledger stored; `more` is 0 where the input ends with them.
-#[unsafe(no_mangle)]
-pub extern "C" fn wear_feed(
-    page: &[u8],
-    s: &[u8],
-    more: u32,
-    out: &mut [u8],
-    cells: &mut [u64],
-) -> u32
-    ensures { (result ≡ putRefusal (isFew feed_cell_count cells.old) (within (length out.old) (page_fed page.now s.now (is_over more))))
-        × (out.new ≡ putOutput (isFew feed_cell_count cells.old) out.old (within (length out.old) (page_fed page.now s.now (is_over more))))
-        × (cells.new ≡ cellsOr (isFew feed_cell_count cells.old) cells.old (feed_cells (within (length out.old) (page_fed page.now s.now (is_over more))) (feed_run page.now s.now (is_over more)))) }
+pub fn wear_feed(page: &[u8], s: &[u8], more: u32, out: &mut [u8], cells: &mut [u64]) -> u32
+    ensures { (result ≡ put_refusal (is_few feed_cell_count cells.old) (within (length out.old) (page_fed page.now s.now (is_over more))))
+        × (out.new ≡ put_output (is_few feed_cell_count cells.old) out.old (within (length out.old) (page_fed page.now s.now (is_over more))))
+        × (cells.new ≡ cells_or (is_few feed_cell_count cells.old) cells.old (feed_cells (within (length out.old) (page_fed page.now s.now (is_over more))) (feed_run page.now s.now (is_over more)))) }
 {
     if cells.len() < cell::FEED_CELLS {
         return refusal::OUTPUT_TOO_SHORT as u32;

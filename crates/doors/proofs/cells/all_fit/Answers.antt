@@ -1,24 +1,22 @@
 -- The loop's invariant: the answer is that of the fields behind those passed. Assumes nothing.
 use mathlib.Core.Path.{◌≡◌, refl, sym, ◌∙◌}
-use mathlib.Core.Logic.{⊎_elim}
 use mathlib.Core.Bool.{Bool, true, false, ◌&&◌}
 use mathlib.Core.List.{List, [], ◌∷◌}
-use Prim.Native.Nat.{ℕ, zero, suc, ◌+◌, ◌-◌, ◌/◌, ◌%◌, ◌≤◌, ◌<◌}
+use Prim.Native.Nat.{ℕ, zero, suc, ◌+◌, ◌-◌, ◌/◌, ◌%◌, ◌<◌}
 use native.Mathlib.Nat.{add-zero}
 use native.Mathlib.Numerals.{add-one}
 use native.Mathlib.Omega.{arith}
 use lib.ListN.{get_or, drop}
 use lib.Seq.{get_or-drop, drop-drop}
-use borrow.Author.Rules.{rules}
-use borrow.Author.Tests.{eq-eqb, ne_eqb, not-true, not-false}
+use borrow.Author.Tests.{eq-eqb, ne_eqb}
 use Rattle.octets.specs.Choice.{pick, odd}
 use Rattle.layouts.specs.Categories.{Category, category, field_at}
 use Rattle.layouts.specs.declared.category.Field.{Field}
 use Rattle.layouts.specs.declared.form.Form.{Form}
 use Rattle.blocks.specs.Marks.{flags_of}
 use Rattle.doors.specs.Cells.{item_fits, all_fit}
-use Rattle.doors.proofs.cells.all_fit.Statement.{statement}
-use Rattle.doors.proofs.cells.all_fit.Tie as tie
+use Rattle.doors.proofs.cells.all_fit.Goals as goal
+use Rattle.doors.proofs.cells.all_fit.Goals.{then-left-eq1+else-not-item_fits, else-left-eq1}
 
 module _ (cs : List ℕ) where
   -- no field is left
@@ -64,64 +62,36 @@ module _ (cs : List ℕ) where
         let is = rw e at s in
         step ∙ rw (eq-eqb (k % 2) 1 h, ← is)
 
-abbrev invariant-loop : tie.invariant-loop
-invariant-loop cells cat marks left₀ f₀ left f =
-    (f ≤ 32) × (all_fit cells (flags_of 32 marks) (category cat).fields ≡ behind cells (category cat) f left)
+pub returns-then-left-eq0 : goal.returns-then-left-eq0
+returns-then-left-eq0 c =
+    let a = c.args in
+    sym (c.loop-f.invariant.1 ∙ rw c.if-left-eq0.true (none_left a.cells.now (32 - c.loop-f.f) (drop c.loop-f.f (category a.cat).fields)))
 
-abbrev decreases-loop : tie.decreases-loop
-decreases-loop cells cat marks left₀ f₀ left f = 32 - f
-
-returns : tie.Need-returns invariant-loop decreases-loop
-returns c =
-    let l = c.before.before in
-    let a = l.before.before.args in
-    sym (l.loop.invariant.1 ∙ rw c.if1.true (none_left a.cells.now (32 - l.loop.f) (drop l.loop.f (category a.cat).fields)))
-
-returns-2 : tie.Need-returns-2 invariant-loop decreases-loop
-returns-2 c =
-    let p = c.before.before in
-    let t = p.before in
-    let l = t.before.before in
-    let a = l.before.before.before.args in
+pub returns-then-not-item_fits : goal.returns-then-not-item_fits
+returns-then-not-item_fits c =
+    let a = c.args in
     sym
-    (l.before.loop.invariant.1
-    ∙ marked a.cells.now (category a.cat) _ _ l.loop-test.true _ t.if2.true p.field_of.ensures c.before.item-fits.ensures
-    ∙ rw (not-true c.before.item-fits.result c.if3.true))
+    (c.loop-f.invariant.1
+    ∙ marked a.cells.now (category a.cat) _ _ c.loop-f-test.true _ c.if-left-eq1.true c.field_of-field.ensures c.item_fits.ensures
+    ∙ rw c.if-not-item_fits.true)
 
-loop-again : tie.Need-loop-preserved invariant-loop decreases-loop
-loop-again c =
-    let l = c.before.before in
-    let a = l.before.before.before.args in
+pub loop-f-preserved : goal.loop-f-preserved
+loop-f-preserved c =
+    let a = c.args in
     let whole = category a.cat in
-    let inside = l.loop-test.true in (
+    let inside = c.loop-f-test.true in (
       omega arith,
-      l.before.loop.invariant.1
-          ∙ ⊎_elim
-          (λ w. marked a.cells.now whole _ _ inside _ w.0.taken w.1.ensures w.2.ensures
-          ∙ rw (not-false w.2.result w.3.left))
-          (λ w. unmarked a.cells.now whole _ _ inside w.left)
-          c.if2.branch,
+      c.loop-f.invariant.1
+          ∙ elim c.if-left-eq1.branch [
+            | then-left-eq1+else-not-item_fits w ↦ marked a.cells.now whole _ _ inside _ w.if-left-eq1.true w.field_of-field.ensures w.item_fits.ensures
+                ∙ rw w.if-not-item_fits.false
+            | else-left-eq1 w ↦ unmarked a.cells.now whole _ _ inside w.if-left-eq1.false
+          ],
     )
 
-returns-3 : tie.Need-returns-3 invariant-loop decreases-loop
+pub returns : goal.returns
 unfolding all_fit flags_of
-returns-3 c =
-    let l = c.before.loop in
+returns c =
+    let l = c.loop-f in
     let e : 32 - l.f ≡ 0 = omega arith in
     sym (l.invariant.1 ∙ rw e)
-
-pub all-fit-spec : {M : Type 1} → statement M
-all-fit-spec =
-    tie.close
-    (tie.spec
-    invariant-loop
-    decreases-loop
-    (λ c. (search rules, refl))
-    returns
-    (λ c. search rules)
-    (λ c κs. search rules)
-    (λ c κs. search rules)
-    returns-2
-    (λ c. search rules)
-    loop-again
-    returns-3)
