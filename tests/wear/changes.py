@@ -37,8 +37,8 @@ def edited(path, text):
 
 
 def copy_of_box(path):
-    for name in ('crates', 'target', 'tests/wear'):
-        shutil.copytree(os.path.join(ROOT, name), os.path.join(path, name), ignore=shutil.ignore_patterns('inc', 'must-fail', 'stored'))
+    for name in ('crates', 'tests/wear'):
+        shutil.copytree(os.path.join(ROOT, name), os.path.join(path, name), ignore=shutil.ignore_patterns('out', 'must-fail', 'stored'))
     for name in ('crates.txt', 'wear', 'README.md'):
         shutil.copy(os.path.join(ROOT, name), path)
 
@@ -48,11 +48,14 @@ def caught(edit):
     with tempfile.TemporaryDirectory() as path, open(edit, encoding='utf-8') as f:
         copy_of_box(path)
         edited(path, f.read())
-        check = subprocess.run(['rt', 'check', 'wear'], cwd=path, stdin=subprocess.DEVNULL, capture_output=True, text=True)
-        if 'rt: wear proved (' not in check.stdout + check.stderr:
-            return None, 'refused by the proofs, or not built:\n' + (check.stdout + check.stderr)[-2000:]
-        if check.returncode != 0:
-            return True, 'by the run of crates/wear'
+        crate = os.path.join(path, 'crates', 'wear')
+        with open(os.path.join(crate, 'stdin'), 'rb') as octets:
+            run = subprocess.run(['rt', 'run'], cwd=crate, stdin=octets, capture_output=True, text=True)
+        if run.returncode != 0:
+            return None, 'refused by the proofs, or not built:\n' + run.stderr[-2000:]
+        with open(os.path.join(crate, 'stdout'), encoding='utf-8') as printed:
+            if run.stdout != printed.read():
+                return True, 'by the run of crates/wear'
         told = subprocess.run([sys.executable, 'tests/wear/told.py', 'wear'], cwd=path, stdin=subprocess.DEVNULL, capture_output=True, text=True)
         return told.returncode != 0, 'by told.py: ' + told.stdout.split('\n', 1)[0] if told.returncode else 'by no stored run'
 

@@ -299,37 +299,38 @@ def on_terminal(command, env):
     return run
 
 
-# Stands in for rt: `check` says what its lines say, and makes the program of what it is given; the rest is rt's.
+# Stands in for rt: `run` says what its lines say, and makes the program of what it is given.
 STAND_IN = """#!/bin/sh
-case $1 in
-    check)
-        [ -f crates.txt ] || exit 2
-        echo 'rt: octets proved (unchanged since it was last proved)'
-        echo 'rt: layouts proved (10 s)'
-        echo 'rt: wear proved (25 s)'
-        [ -n "$PROGRAM" ] || exit 1
-        mkdir -p target/bin
-        cp "$PROGRAM" target/bin/wear ;;
-    doc) echo "${DOC:-$(REAL doc)}" ;;
-esac
+[ "$1" = run ] || exit 2
+[ -f ../../crates.txt ] || exit 2
+{
+    echo 'rt: octets: begins with what a check kept in /elsewhere/crates/octets'
+    echo 'rt: chose --jobs 2 for layouts'
+    echo 'fn layouts::ends::end: proved'
+    echo 'rt: chose --jobs 2 for wear'
+} >&2
+[ -n "$PROGRAM" ] || exit 1
+mkdir -p out
+cp "$PROGRAM" out/wear
+echo 'what the program prints, as rt runs it'
 """
 
 
 def first_runs():
     """A launcher that has nothing built, through a link: on a terminal it tells crate by crate what it proves, elsewhere nothing."""
     begun = 'wear: proving and building the program, crate by crate; this takes some minutes, the first time only\n'
-    told = 'wear: layouts proved (10 s)\nwear: wear proved (25 s)\n'
+    told = 'wear: proving layouts\nwear: proving wear\n'
     with tempfile.TemporaryDirectory() as folder:
         box, bin = os.path.join(folder, 'box'), os.path.join(folder, 'bin')
-        os.mkdir(box), os.mkdir(bin)
+        os.makedirs(os.path.join(box, 'crates', 'wear')), os.mkdir(bin)
         shutil.copy(WEAR, box)
         shutil.copy(os.path.join(ROOT, 'crates.txt'), box)
         stand_in, link = os.path.join(bin, 'rt'), os.path.join(folder, 'link')
         with open(stand_in, 'w') as f:
-            f.write(STAND_IN.replace('REAL', shutil.which('rt')))
+            f.write(STAND_IN)
         os.chmod(stand_in, 0o755)
         os.symlink(os.path.join(box, 'wear'), link)
-        program = os.path.join(os.path.dirname(WEAR), 'target', 'bin', 'wear')
+        program = os.path.join(os.path.dirname(WEAR), 'crates', 'wear', 'out', 'wear')
         env = dict(os.environ, PATH=bin + os.pathsep + os.environ['PATH'], PROGRAM=program)
         if os.path.exists('/dev/ptmx'):
             holds('a first run on a terminal, through a link', on_terminal(link, env), 0, EMPTY, begun + told)
@@ -340,16 +341,15 @@ def first_runs():
         unbuilt = Run(wear=link, env=dict(env, PROGRAM=''))
         holds('a program that is not proved', unbuilt, 1, '')
         holds('the same, with a relative TMPDIR', Run(wear=link, env=dict(env, PROGRAM='', TMPDIR='.'), cwd=folder), 1, '')
-        if not unbuilt.err.endswith('rt: wear proved (25 s)\nwear: failed: the program could not be built\n'):
+        if not unbuilt.err.endswith('rt: chose --jobs 2 for wear\nwear: failed: the program could not be built\n'):
             FAULTS.append('a program that is not proved')
             print('a program that is not proved: %r' % unbuilt.err)
-        # a kit whose loader is ended by the system
-        loader = os.path.join(folder, 'on', os.uname().machine, 'toolchain', 'lib', 'ld-linux-x86-64.so.2')
-        os.makedirs(os.path.dirname(loader))
-        with open(loader, 'w') as f:
+        # a program that is ended by the system
+        short = os.path.join(folder, 'short')
+        with open(short, 'w') as f:
             f.write('#!/bin/sh\nkill -9 $$\n')
-        os.chmod(loader, 0o755)
-        killed = Run(wear=link, env=dict(env, DOC=os.path.join(folder, 'docs', 'START')))
+        os.chmod(short, 0o755)
+        killed = Run(wear=link, env=dict(env, PROGRAM=short))
         killed.err = killed.err.splitlines(keepends=True)[-1]           # some shells say before it that they saw it
         holds('a program that the system ended', killed, 1, '', 'wear: failed: the program ended with status 137\n')
 

@@ -3,7 +3,7 @@ ghost use Rattle.std.specs.Prelude.{◌≡◌, ◌%◌};
 ghost use Rattle.text.specs.Digits.{hex_value, hex_digit, with_digit};
 
 // A decimal number so far; none where what was read is no digit, or too many.
-#[derive(Drop)]
+#[derive(Clone, Copy)]
 pub enum Number {
     Value(usize),
     Nothing,

@@ -1,3 +1,5 @@
+#![tactic(auto)]
+
 // Text that a program writes, gathered so that one call writes much; a full buffer goes to standard output.
 ghost use Rattle.std.specs.Prelude.{◌≡◌};
 ghost use mathlib.Core.List.{◌++◌, flat_map};

@@ -33,7 +33,7 @@ const MOST: usize = 1 + CELLS;
 const NO_HALF: u8 = 16;
 
 // A word of octets: where they start, the count that its digits may turn out to be, how often it is said, and the half octet that waits.
-#[derive(Drop)]
+#[derive(Clone, Copy)]
 pub struct Word {
     pub from: usize,
     pub count: Number,
@@ -42,7 +42,7 @@ pub struct Word {
 }
 
 // What a line is in, by its octets so far.
-#[derive(Drop)]
+#[derive(Clone, Copy)]
 pub enum State {
     Start,
     Comment,
@@ -54,7 +54,7 @@ pub enum State {
 }
 
 // A case: its operation, how many numbers it has so far, the first of them, those behind it, and how many octets are in store.
-#[derive(Drop)]
+#[derive(Clone, Copy)]
 pub struct Case {
     pub operation: u64,
     pub given: usize,
@@ -63,7 +63,7 @@ pub struct Case {
     pub len: usize,
 }
 
-#[derive(Drop)]
+#[derive(Clone, Copy)]
 pub struct Line {
     pub state: State,
     pub case: Case,

@@ -1,3 +1,5 @@
+#![tactic(auto)]
+
 // Runs the cases of standard input through the layers, a line for each to standard output: `read OCTETS`, `step START OCTETS`,
 // `entry START K OCTETS`, `rewrite ROOM OCTETS`, `write ROOM CELLS OCTETS`, `post K LEDGER OCTETS`, `load OCTETS`, `store ROOM LEDGER`,
 // `to_new ROOM OCTETS`, `to_old ROOM OCTETS`, `feed PIECE OCTETS`.
@@ -11,7 +13,7 @@ mod written;
 use crate::case::Line;
 
 // The line that is being read, how much text is gathered, and whether the input has ended.
-#[derive(Drop)]
+#[derive(Clone, Copy)]
 struct Run {
     line: Line,
     held: usize,

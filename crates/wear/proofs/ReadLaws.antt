@@ -13,11 +13,10 @@ use denote.Enum.Declared.{declared, tag_of}
 use types.Run.{OneOf}
 use mir.Syntax.{w64}
 use mir.Val.{Fits, SFits}
-use Rattle.libc.specs.Io.{Moved}
 use Rattle.octets.proofs.Cases.{test, choose}
 use Rattle.feed.specs.Totals.{up}
 use Rattle.feed.proofs.TotalLaws.{up-low, up-high}
-use Rattle.wear.specs.Turns.{heard, unheard, input_of, Heard, OneMore}
+use Rattle.wear.specs.Turns.{heard, unheard, input_of, Moved, Heard, OneMore}
 use Rattle.wear.specs.declared.reads.Going.{Going}
 use Rattle.wear.specs.declared.reads.Input.{Input}
 use Rattle.wear.specs.declared.reads.Reads.{Reads}

@@ -1,6 +1,5 @@
 -- What the reads give, what a turn of the program does, and what it has done when the input is over (01 "Worked examples", the program `wear`).
 use Rattle.std.specs.Prelude.{Bool, true, false, List, [], ◌⊎◌, ◌≡◌, ℕ, ◌+◌, ◌-◌, ◌^◌, ◌≤◌, ◌<◌, eqb, ℤ, pos, negsuc, length, take, drop}
-use Rattle.libc.specs.Io.{Moved}
 use Rattle.octets.specs.Choice.{pick}
 use Rattle.octets.specs.Numbers.{Octets}
 use Rattle.ledger.specs.Ledgers.{rows_of, cells_of}
@@ -38,6 +37,11 @@ has_failed reads = is_failed reads.input
 abbrev pub input_of : Reads → ℤ → Input
 input_of before (pos n) = Input.Came n (heard before n)
 input_of before (negsuc n) = Input.Failed (unheard before)
+
+-- what a call that is handed n octets may answer: -1, or how many octets it moved, at most n
+abbrev pub Moved : ℕ → ℤ → Type 0
+Moved n (pos k) = k ≤ n
+Moved n (negsuc k) = k ≡ 0
 
 -- a read with so much room was answered
 pub record Heard (room : ℕ) (before : Reads) (input : Input) : Type 0 where

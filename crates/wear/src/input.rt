@@ -10,10 +10,11 @@ use crate::tells::tell_skipped;
 use feed::run::{Ending, run};
 use feed::totals::Totals;
 use ledger::cells::CELLS;
+use std::io::Stdin;
 
 // Between which offsets of the buffer octets wait, how many the run has used before them, up to 2^64 - 1, what has been counted, whether the run
 // goes on, and what the reads have given.
-#[derive(Drop)]
+#[derive(Clone, Copy)]
 pub struct Turn {
     pub from: usize,
     pub to: usize,
@@ -86,6 +87,7 @@ fn run_front(
 
 // What waits goes to the front, one read comes behind it, and a run goes over both. A read of nothing is the end of the input; one that fails is not.
 pub(crate) fn take_turn(
+    stdin: Stdin,
     buffer: &mut [u8],
     cells: &mut [u64; CELLS],
     tells: bool,
@@ -98,7 +100,7 @@ pub(crate) fn take_turn(
 {
     let reads = before.reads;
     let held = keep(buffer, before.from, before.to);
-    let input = read_behind(buffer, held, reads);
+    let input = read_behind(stdin, buffer, held, reads);
     match input {
         Input::Failed(told) => {
             let totals = before.totals;

@@ -1,3 +1,5 @@
+#![tactic(auto)]
+
 // Reads a feed on standard input, posts the statistics reports of its blocks to a fresh ledger, and prints the ledger and the totals. With an argument,
 // whatever it is, refused blocks are told. What went wrong is told on standard error, from which the launcher makes an exit status.
 ghost use Rattle.std.specs.Prelude.{List, [], ◌≡◌, ℕ, length};
@@ -14,10 +16,12 @@ use crate::reads::Going;
 use feed::totals::ZEROS;
 use ledger::cells::CELLS;
 use ledger::fresh;
+use std::env::{Env, FillError};
+use std::io::Stdin;
 
 // Turns until the run is over or a read fails. A proved loop has to end, and nothing says that the input does: it counts its turns down, from a
 // number that no run uses up.
-fn turns(buffer: &mut [u8], cells: &mut [u64; CELLS], tells: bool) -> Turn
+fn turns(stdin: Stdin, buffer: &mut [u8], cells: &mut [u64; CELLS], tells: bool) -> Turn
     requires { (length buffer.old ≡ 131072) × (cells.old ≡ cells_of []) }
     ensures { Turns buffer.new cells.new result }
 {
@@ -31,7 +35,7 @@ fn turns(buffer: &mut [u8], cells: &mut [u64; CELLS], tells: bool) -> Turn
     };
     let mut left = u64::MAX;
     while 0 < left {
-        now = take_turn(buffer, cells, tells, now);
+        now = take_turn(stdin, buffer, cells, tells, now);
         let going = now.going;
         if let Going::On = going {
             left -= 1;
@@ -43,12 +47,12 @@ fn turns(buffer: &mut [u8], cells: &mut [u64; CELLS], tells: bool) -> Turn
 }
 
 // Where the run stopped and why, at once; and, when the input has come to its end, how many octets were not read.
-fn tell_stop(buffer: &mut [u8], last: Turn)
+fn tell_stop(stdin: Stdin, buffer: &mut [u8], last: Turn)
     requires { (feed : List ℕ) × Left feed buffer.old last }
 {
     tells::say_stopped(buffer, last);
     let so_far = last.reads;
-    let all = reads::read_on(buffer, so_far);
+    let all = reads::read_on(stdin, buffer, so_far);
     tells::say_unread(all, last);
 }
 
@@ -60,13 +64,23 @@ fn print(cells: &[u64; CELLS], last: Turn)
     }
 }
 
+// Whether the program was given an argument, whatever it is: it is not read, and need not fit.
+fn is_given(rt: &HostRuntime) -> bool {
+    match rt.arg(1, &mut []) {
+        Ok(_) => true,
+        Err(FillError::TooLong) => true,
+        Err(FillError::NotPresent) => false,
+    }
+}
+
 // One buffer that holds the longest block twice over, and one ledger, whatever the length of the input.
-fn main() {
+fn main(rt: HostRuntime) {
+    let stdin = rt.stdin();
     let mut buffer = [0u8; 131072];
     let ledger = fresh();
     let mut cells = ledger.cells;
-    let tells = 1 < os::arg_count();
-    let last = turns(&mut buffer, &mut cells, tells);
+    let tells = is_given(&rt);
+    let last = turns(stdin, &mut buffer, &mut cells, tells);
     let going = last.going;
     match going {
         Going::Over => {
@@ -74,7 +88,7 @@ fn main() {
         }
         Going::Stopped => {
             print(&cells, last);
-            tell_stop(&mut buffer, last);
+            tell_stop(stdin, &mut buffer, last);
         }
         Going::On | Going::Failed => {
             io::write_all(

@@ -1,11 +1,12 @@
 // What the reads of standard input have given.
 ghost use Rattle.std.specs.Prelude.{◌≡◌, ◌-◌, ◌≤◌, length, take};
-ghost use Rattle.libc.specs.Io.{Moved};
 ghost use Rattle.feed.specs.Totals.{up};
-ghost use Rattle.wear.specs.Turns.{unread, heard, has_failed, input_of, Heard, OneMore, ReadOn};
+ghost use Rattle.wear.specs.Turns.{unread, heard, has_failed, input_of, Moved, Heard, OneMore, ReadOn};
+
+use std::io::{Read, Stdin};
 
 // Whether it goes on, is over, or a read failed: of the input, and of the run over it, which may also stop.
-#[derive(Drop)]
+#[derive(Clone, Copy)]
 pub enum Going {
     On,
     Over,
@@ -15,14 +16,14 @@ pub enum Going {
 
 // How many octets the reads have given in all, up to 2^64 - 1, and how the input stands since the last of them. The fields are this file's own:
 // nobody else can make one of these or change it, so that whoever has one has it from the reads that it tells of.
-#[derive(Drop)]
+#[derive(Clone, Copy)]
 pub struct Reads {
     octets: u64,
     input: Going,
 }
 
 // What a read gave: so many octets, none of them at the end of the input; or it failed.
-#[derive(Drop)]
+#[derive(Clone, Copy)]
 pub enum Input {
     Came(usize, Reads),
     Failed(Reads),
@@ -81,28 +82,31 @@ fn told(before: Reads, got: isize) -> Input
     Input::Came(n, reads)
 }
 
-// One read behind what is held: the system's own answer.
-fn ask(buffer: &mut [u8], held: usize) -> isize
+// One read behind what is held: the system's own answer, a number of octets or -1.
+fn ask(mut stdin: Stdin, buffer: &mut [u8], held: usize) -> isize
     requires { held ≤ length buffer.old }
     ensures { (take held buffer.new ≡ take held buffer.old) × Moved (length buffer.old - held) result }
 {
-    libc::read(0, &mut buffer[held..])
+    match stdin.read(&mut buffer[held..]) {
+        Ok(n) => n as isize,
+        Err(_) => -1,
+    }
 }
 
 // One read behind what is held, and what it says.
-pub(crate) fn read_behind(buffer: &mut [u8], held: usize, before: Reads) -> Input
+pub(crate) fn read_behind(stdin: Stdin, buffer: &mut [u8], held: usize, before: Reads) -> Input
     requires { held ≤ length buffer.old }
     ensures { (take held buffer.new ≡ take held buffer.old) × Heard (length buffer.old - held) before result }
 {
-    let got = ask(buffer, held);
+    let got = ask(stdin, buffer, held);
     told(before, got)
 }
 
 // One read more, only to count what comes.
-fn read_once(buffer: &mut [u8], before: Reads) -> Reads
+fn read_once(stdin: Stdin, buffer: &mut [u8], before: Reads) -> Reads
     ensures { OneMore before result }
 {
-    let input = read_behind(buffer, 0, before);
+    let input = read_behind(stdin, buffer, 0, before);
     match input {
         Input::Failed(told) => told,
         Input::Came(_, told) => told,
@@ -110,7 +114,7 @@ fn read_once(buffer: &mut [u8], before: Reads) -> Reads
 }
 
 // Reads on to the end of the input, or to a read that fails, or for as long as can be counted.
-pub(crate) fn read_on(buffer: &mut [u8], before: Reads) -> Reads
+pub(crate) fn read_on(stdin: Stdin, buffer: &mut [u8], before: Reads) -> Reads
     ensures { ReadOn before result }
 {
     let mut reads = before;
@@ -118,7 +122,7 @@ pub(crate) fn read_on(buffer: &mut [u8], before: Reads) -> Reads
     while 0 < left {
         let going = reads.input;
         if let Going::On = going {
-            reads = read_once(buffer, reads);
+            reads = read_once(stdin, buffer, reads);
         } else {
             return reads;
         }

@@ -19,7 +19,7 @@ use text::{emit, emit_all, number, word_number};
 const LINE: usize = 256;
 
 // A refusal, and the offset of the faulty record.
-#[derive(Drop)]
+#[derive(Clone, Copy)]
 struct Fault {
     refusal: u8,
     offset: usize,
