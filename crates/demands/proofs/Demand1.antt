@@ -23,7 +23,7 @@ use Rattle.pages.proofs.PageTheorems.{store_load, load_store}
 use Rattle.ledger.proofs.PostTheorems.{posted-same}
 use Rattle.doors.specs.Cell.{feed_cell_count}
 use Rattle.doors.specs.Feeds.{is_over, feed_run, page_fed, feed_cells}
-use Rattle.demands.specs.Contracts.{Writes, Rewrites, Posts, Loads, Stores, Turns, WearFeeds, PutsOut}
+use Rattle.demands.specs.Operations.{Writes, Rewrites, Posts, Loads, Stores, Turns, WearFeeds, PutsOut}
 use Rattle.octets.proofs.Outcomes.{refused-same}
 use Rattle.demands.proofs.GivenOutputs.{goes_out, went_out}
 use Rattle.demands.proofs.GivenPages.{store_puts}

@@ -37,7 +37,7 @@ use Rattle.octets.specs.declared.output.Written.{Written}
 use Rattle.writing.proofs.RewriteTheorems.{rewrite_accepted, rewrite_reading, rewrite_again, rewrite_short, rewrite_same, rewrite_typed}
 use Rattle.writing.proofs.WriteTheorems.{write_normal, write_reading}
 use Rattle.writing.proofs.ReadBackTheorems.{write_back, entry-back, entry-none}
-use Rattle.demands.specs.Contracts.{Reads, Steps, Entries, Writes, Rewrites}
+use Rattle.demands.specs.Operations.{Reads, Steps, Entries, Writes, Rewrites}
 use Rattle.octets.proofs.Outcomes.{Laid, written-laid}
 use Rattle.demands.proofs.GivenOutputs.{went_out}
 use Rattle.octets.proofs.Parts.{Octets-drop}

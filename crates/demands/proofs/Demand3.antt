@@ -29,7 +29,7 @@ use Rattle.ledger.proofs.RuleLaws.{kept-rules, rules-kept}
 use Rattle.ledger.proofs.PostTheorems.{posted-is, posted-rows, posted-kept, posted_grows}
 use Rattle.feed.specs.Blocks.{reports_of}
 use Rattle.feed.proofs.BlockTheorems.{block_numbers}
-use Rattle.demands.specs.Contracts.{Reads, Posts}
+use Rattle.demands.specs.Operations.{Reads, Posts}
 use Rattle.demands.specs.Runs.{Sent, nothing, numbered, Run, report, Names, Room, Order, in_order}
 
 -- A run of posts is a run of its reports over the ledger's rows
@@ -70,7 +70,7 @@ module _ (xs : List Sent) (order : List ℕ) (o : Order xs order) where
       test (ltb i (length xs)) (ltb-true i (length xs))
       (λ f. absurd (let z : 1 ≤ pick false 1 0 = rw (o.once i, length-map xs report, f) at h in omega arith))
 
-  in_order_lem : map report (in_order order xs) ≡ rows.inOrder order (map report xs)
+  in_order_lem : map report (in_order order xs) ≡ rows.in_order order (map report xs)
   in_order_lem = map-twice report (λ i. get_or xs i nothing) order ∙ map_same _ _ order (λ i h. sym (at_place xs i (within i h)))
 
 -- Two runs of the same reports, in two orders, over a ledger with room: each report gets the same answer, and the ledger ends the same.

@@ -35,7 +35,7 @@ use Rattle.blocks.proofs.BoundaryLaws.{read-filled, filled-read, read-stopped}
 use Rattle.blocks.proofs.StoppedLaws.{stopped-read, read_some}
 use Rattle.blocks.proofs.StepFaults.{step-outside, step_faulty, step_cases, entry_past, entry_cases}
 use Rattle.blocks.proofs.StepLaws.{step-refused, not_taken, entry-refused}
-use Rattle.demands.specs.Contracts.{Reads, Steps, Entries}
+use Rattle.demands.specs.Operations.{Reads, Steps, Entries}
 use Rattle.demands.specs.Given.{HeaderFault, short, unknown, low, RecordFault, cut, long, none, spare, passes, empty, past, range, absent, BlockFault, first, NoRecord, StepFault, outside, here, NoEntry, EntryFault, step, missing}
 
 -- A header

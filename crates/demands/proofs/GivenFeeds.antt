@@ -24,7 +24,7 @@ use Rattle.feed.specs.Runs.{done_of}
 use Rattle.feed.proofs.KeptRuns.{kept_run}
 use Rattle.doors.specs.Cell.{feed_cell_count}
 use Rattle.doors.specs.Feeds.{is_over, feed_run, page_fed, done_cells, feed_cells}
-use Rattle.demands.specs.Contracts.{WearFeeds}
+use Rattle.demands.specs.Operations.{WearFeeds}
 use Rattle.demands.specs.GivenPages.{Page, NoPage}
 use Rattle.demands.specs.GivenFeeds.{fed_page, FeedFault}
 use Rattle.demands.proofs.GivenOutputs.{within-puts, number-given, number-written}

@@ -28,7 +28,7 @@ use Rattle.pages.proofs.PageTheorems.{page-ruled}
 use Rattle.ledger.specs.declared.Answer.{Answer}
 use Rattle.ledger.specs.declared.Ledger.{Ledger}
 use Rattle.pages.proofs.PageLaws.{Stand, head-says, head_so}
-use Rattle.demands.specs.Contracts.{Loads, Stores, Turns}
+use Rattle.demands.specs.Operations.{Loads, Stores, Turns}
 use Rattle.demands.specs.Given.{own}
 use Rattle.demands.specs.GivenPages.{OldHead, NewHead, Page, NoPage, StoreFault, TurnFault}
 use Rattle.demands.proofs.GivenOutputs.{output_given, output_written}

@@ -13,7 +13,7 @@ use Rattle.blocks.proofs.BoundaryLaws.{read-stopped}
 use Rattle.ledger.specs.Ledgers.{answer}
 use Rattle.ledger.specs.declared.Answer.{Answer}
 use Rattle.ledger.specs.declared.Ledger.{Ledger}
-use Rattle.demands.specs.Contracts.{Posts}
+use Rattle.demands.specs.Operations.{Posts}
 use Rattle.demands.specs.Verdicts.{Verdict, broken, unread, missing, other, full, past, added, case}
 use Rattle.demands.proofs.GivenBlocks.{read_refusals}
 use Rattle.demands.proofs.Verdicts.{refusal_of, verdict}

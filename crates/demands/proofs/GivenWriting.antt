@@ -33,7 +33,7 @@ use Rattle.writing.specs.Judged.{marked_type, items_refusal, marked_refusal, rec
 use Rattle.writing.specs.Written.{write_of, rewrite_from, rewrite_of}
 use Rattle.writing.proofs.MarksWritten.{present_by_type}
 use Rattle.writing.proofs.ReadBackTheorems.{marks-flags}
-use Rattle.demands.specs.Contracts.{Writes, Rewrites}
+use Rattle.demands.specs.Operations.{Writes, Rewrites}
 use Rattle.demands.specs.GivenWriting.{ItemFault, Marked, item_on, NothingMarked, SpareOnMark, GoodMarks, FirstFaulty, GoodItems, its_block, TypedFault, Writable, WriteFault, normal_of, Unread, Accepted, RewriteFault}
 use Rattle.demands.proofs.GivenBlocks.{reading-given, full-read}
 use Rattle.demands.proofs.GivenItems.{item-fault, fault-item, not_zero, item_given_0, on, first_of, of_first, all-good, good-all, there}

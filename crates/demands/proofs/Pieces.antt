@@ -24,9 +24,9 @@ use Rattle.feed.specs.declared.run.Ending.TheVariants as ending
 use Rattle.feed.proofs.CountedRuns.{counting, counted-more}
 use Rattle.doors.specs.Cell as wear
 use Rattle.doors.specs.Cell.{feed_cell_count}
-use Rattle.doors.specs.Answers.{isFew, putRefusal, putOutput}
+use Rattle.doors.specs.Answers.{is_few, put_refusal, put_output}
 use Rattle.doors.specs.Feeds.{is_over, feed_run, page_fed, left_off, done_cells, feed_cells}
-use Rattle.demands.specs.Contracts.{WearFeeds}
+use Rattle.demands.specs.Operations.{WearFeeds}
 use Rattle.demands.specs.GivenFeeds.{fed_page}
 use Rattle.demands.specs.Pieces.{Waits, stored, unused, Together}
 use Rattle.demands.proofs.Demand1.{few_feeding}
@@ -36,7 +36,7 @@ use Rattle.demands.proofs.GivenFeeds.{fed-kept, fed-loaded, feed_given_0, puts_o
 -- a call that is accepted has its cells
 enough : (page s : List ℕ) (more : ℕ) (l cells out after : List ℕ) (r : ℕ) → WearFeeds page s more l cells out after r → r ≡ 0 → feed_cell_count ≤ length cells
 enough page s more l cells out after r h e =
-    test (isFew feed_cell_count cells)
+    test (is_few feed_cell_count cells)
     (λ t. absurd (let z : ◌≡◌ {A = ℕ} 0 12 = sym e ∙ (few_feeding page s more l cells out after r h (ltb-true _ _ t)).0 in omega arith))
     (λ f. ltb-false _ _ f)
 
@@ -71,7 +71,7 @@ module _ (page s t : List ℕ) (okay : Octets page) (are : Octets (s ++ t)) (mor
   page-stored : stored after out ≡ fed_page page s more
   unfolding laid
   page-stored =
-      (λ i. take (told wear.feedPage (omega arith) i) (says.0 i)) ∙ take_at (fed_page page s more) _ _ refl
+      (λ i. take (told wear.feed_page (omega arith) i) (says.0 i)) ∙ take_at (fed_page page s more) _ _ refl
 
   loads : load_of new (stored after out) ≡ answer 0 (cells_of run.state.rows)
   loads =
@@ -85,11 +85,11 @@ module _ (page s t : List ℕ) (okay : Octets page) (are : Octets (s ++ t)) (mor
     goes_on : second_run ≡ run_over (drop run.at s ++ t) over (state run.state.rows zeros)
     goes_on =
         let rows = ap (λ (a : Answer). rows_of a.ledger.cells) loads ∙ rows_back run.state.rows in
-        λ i. run_over (drop (told wear.feedUsed (omega arith) i) s ++ t) over (state (rows i) zeros)
+        λ i. run_over (drop (told wear.feed_used (omega arith) i) s ++ t) over (state (rows i) zeros)
 
     whole_run : feed_run page (s ++ t) over ≡ behind run.at (counting run.state.totals second_run)
     whole_run =
-        counted-more s t (is_over more) over _ are (left-more run.ending (sym (told wear.feedLeftOff (omega arith)) ∙ waits))
+        counted-more s t (is_over more) over _ are (left-more run.ending (sym (told wear.feed_left_off (omega arith)) ∙ waits))
         ∙ ap (λ (r : Run). behind run.at (counting run.state.totals r)) (sym goes_on)
 
     same-fed : page_fed (stored after out) (unused after s ++ t) over ≡ page_fed page (s ++ t) over
@@ -106,8 +106,8 @@ module _ (page s t : List ℕ) (okay : Octets page) (are : Octets (s ++ t)) (mor
     pub pieces_page : (r₂ ≡ r') × (out₂ ≡ out')
     pieces_page =
         let same = same-fed (is_over more') in (
-          second.0 ∙ ap (λ x. putRefusal (isFew feed_cell_count cells') (within (length l') x)) same ∙ sym whole.0,
-          second.1 ∙ ap (λ x. putOutput (isFew feed_cell_count cells') l' (within (length l') x)) same ∙ sym whole.1,
+          second.0 ∙ ap (λ x. put_refusal (is_few feed_cell_count cells') (within (length l') x)) same ∙ sym whole.0,
+          second.1 ∙ ap (λ x. put_output (is_few feed_cell_count cells') l' (within (length l') x)) same ∙ sym whole.1,
         )
 
     -- And what the cells of both say is what those of the one call say.
@@ -131,11 +131,11 @@ module _ (page s t : List ℕ) (okay : Octets page) (are : Octets (s ++ t)) (mor
         → get_or after' i 0 ≡ f (get_or after i 0) (get_or after₂ i 0)
         = λ f i h is. one i h ∙ is ∙ (λ p. f (sym (told i h) p) (sym (two i h) p)) in
         record {
-          page = added (λ m k. k) wear.feedPage (omega arith) refl;
-          used = added (λ m k. m + k) wear.feedUsed (omega arith) refl;
-          left = added (λ m k. k) wear.feedLeftOff (omega arith) refl;
-          accepted = added up wear.feedAccepted (omega arith) refl;
-          refused = added up wear.feedRefused (omega arith) refl;
-          posted = added up wear.feedPosted (omega arith) refl;
-          unposted = added up wear.feedUnposted (omega arith) refl;
+          page = added (λ m k. k) wear.feed_page (omega arith) refl;
+          used = added (λ m k. m + k) wear.feed_used (omega arith) refl;
+          left = added (λ m k. k) wear.feed_left_off (omega arith) refl;
+          accepted = added up wear.feed_accepted (omega arith) refl;
+          refused = added up wear.feed_refused (omega arith) refl;
+          posted = added up wear.feed_posted (omega arith) refl;
+          unposted = added up wear.feed_unposted (omega arith) refl;
         }

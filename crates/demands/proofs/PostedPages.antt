@@ -9,8 +9,8 @@ use Rattle.octets.specs.Outcomes.{WrittenListed, within, listed_written}
 use Rattle.octets.specs.declared.output.Written.{Written}
 use Rattle.ledger.specs.declared.Answer.{Answer}
 use Rattle.pages.specs.Pages.{new, store_of}
-use Rattle.doors.proofs.DoorSteps.{load_refused, post_refused, post_stored}
-use Rattle.demands.specs.Contracts.{Loads, Posts, Stores, WearPosts}
+use Rattle.doors.proofs.DoorSteps.{load_refused, post_refused, post_stored_lem}
+use Rattle.demands.specs.Operations.{Loads, Posts, Stores, WearPosts}
 use Rattle.demands.proofs.GivenOutputs.{listed}
 
 module _ (page s : List ℕ) (k : ℕ) (l size out after : List ℕ) (r : ℕ) (h : WearPosts page s k l size out after r) (one : 1 ≤ length size)
@@ -28,6 +28,6 @@ module _ (page s : List ℕ) (k : ℕ) (l size out after : List ℕ) (r : ℕ) (
     pub door_posted : b.refusal ≡ 0 → (w : Written) (out' : List ℕ) → Stores b.ledger l out' w
         → (r ≡ (listed_written w).refusal) × (out ≡ out') × (after ≡ laid size 0 ((listed_written w).length ∷ []))
     door_posted z w out' stores =
-        let d = rw (le-ltb (length size) 1 one, post_stored page s k loaded good posted z) at h in
+        let d = rw (le-ltb (length size) 1 one, post_stored_lem page s k loaded good posted z) at h in
         let said = sym (ap listed_written stores.1 ∙ listed (within (length l) (store_of new b.ledger.cells))) in
         (d.0 ∙ ap (λ (x : WrittenListed). x.refusal) said, d.1 ∙ sym stores.0, d.2 ∙ ap (λ (x : WrittenListed). laid size 0 (x.length ∷ [])) said)

@@ -42,7 +42,7 @@ use Rattle.writing.proofs.OctetsWritten.{joined, octets-are}
 use Rattle.writing.proofs.OctetsRewritten.{rewrite_octets}
 use Rattle.writing.proofs.ReadBackTheorems.{One}
 use Rattle.writing.proofs.SameRecords.{same_record}
-use Rattle.demands.specs.Contracts.{Reads, Rewrites}
+use Rattle.demands.specs.Operations.{Reads, Rewrites}
 use Rattle.demands.specs.Rewritten.{Hands, Twins, InTurnBy, InTurn}
 use Rattle.demands.proofs.Demand2.{same-records, as_many}
 

@@ -48,7 +48,7 @@ use Rattle.ledger.specs.declared.Answer.{Answer}
 use Rattle.ledger.specs.declared.Ledger.{Ledger}
 use Rattle.ledger.proofs.ReportLaws.{at_more, report-other, report-counts, report-refused, report-stopped, report-taken}
 use Rattle.ledger.proofs.RecordNumbers.{record_past}
-use Rattle.demands.specs.Contracts.{Rewrites, Posts}
+use Rattle.demands.specs.Operations.{Rewrites, Posts}
 use Rattle.demands.specs.Rewritten.{Twins, InTurn}
 use Rattle.demands.proofs.Demand2.{same-records}
 use Rattle.demands.proofs.Rewritten.{item-same, handed, same_blocks, rewritten-octets, longer-octets, plain-octets}

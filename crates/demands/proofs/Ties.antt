@@ -1,4 +1,4 @@
--- The code of each public operation meets just the words of specs/Contracts.antt, by the operation's own theorem: a contract that says less, more or
+-- The code of each public operation meets just the words of specs/Operations.antt, by the operation's own theorem: a contract that says less, more or
 -- other than these words, or asks anything of a caller, is refused here. Assumes nothing.
 use Rattle.blocks.proofs.walk.read as read
 use Rattle.blocks.proofs.cursor.Cursor.first as first
@@ -25,94 +25,119 @@ use Rattle.doors.proofs.wear_page_to_new as wear-page-to-new
 use Rattle.doors.proofs.wear_page_to_old as wear-page-to-old
 use Rattle.doors.proofs.wear_post as wear-post
 use Rattle.doors.proofs.wear_feed as wear-feed
+use Rattle.blocks.specs.contracts.walk.read.{ended as read_ended}
+use Rattle.blocks.specs.contracts.cursor.Cursor.first.{ended as first_ended}
+use Rattle.blocks.specs.contracts.cursor.Cursor.step.{ended as step_ended}
+use Rattle.blocks.specs.contracts.cursor.entry.{ended as entry_ended}
+use Rattle.writing.specs.contracts.block.write.{ended as write_ended}
+use Rattle.writing.specs.contracts.block.rewrite.{ended as rewrite_ended}
+use Rattle.ledger.specs.contracts.fresh.{ended as fresh_ended}
+use Rattle.ledger.specs.contracts.rules.check.{ended as check_ended}
+use Rattle.ledger.specs.contracts.post.post.{ended as post_ended}
+use Rattle.ledger.specs.contracts.lent.post_lent.{ended as post_lent_ended}
+use Rattle.pages.specs.contracts.load.{ended as load_ended}
+use Rattle.pages.specs.contracts.store.{ended as store_ended}
+use Rattle.pages.specs.contracts.to_new.{ended as to_new_ended}
+use Rattle.pages.specs.contracts.to_old.{ended as to_old_ended}
+use Rattle.feed.specs.contracts.block.next_block.{ended as next_block_ended}
+use Rattle.doors.specs.contracts.wear_version.{ended as wear_version_ended}
+use Rattle.doors.specs.contracts.wear_read.{ended as wear_read_ended}
+use Rattle.doors.specs.contracts.wear_step.{ended as wear_step_ended}
+use Rattle.doors.specs.contracts.wear_entry.{ended as wear_entry_ended}
+use Rattle.doors.specs.contracts.wear_write.{ended as wear_write_ended}
+use Rattle.doors.specs.contracts.wear_rewrite.{ended as wear_rewrite_ended}
+use Rattle.doors.specs.contracts.wear_page_to_new.{ended as wear_page_to_new_ended}
+use Rattle.doors.specs.contracts.wear_page_to_old.{ended as wear_page_to_old_ended}
+use Rattle.doors.specs.contracts.wear_post.{ended as wear_post_ended}
+use Rattle.doors.specs.contracts.wear_feed.{ended as wear_feed_ended}
 use Rattle.pages.specs.Pages.{old, new}
 use Rattle.demands.specs.Claims.{MeetsJust}
-use Rattle.demands.specs.Contracts.{Reads, First, Steps, Entries, Writes, Rewrites, Fresh, Checks, Posts, LentPosts, Loads, Stores, Turns, Begins}
-use Rattle.demands.specs.Contracts.{WearVersions, WearReads, WearSteps, WearEntries, WearWrites, WearRewrites, WearTurns, WearPosts, WearFeeds}
+use Rattle.demands.specs.Operations.{Reads, First, Steps, Entries, Writes, Rewrites, Fresh, Checks, Posts, LentPosts, Loads, Stores, Turns, Begins}
+use Rattle.demands.specs.Operations.{WearVersions, WearReads, WearSteps, WearEntries, WearWrites, WearRewrites, WearTurns, WearPosts, WearFeeds}
 
-pub reading : MeetsJust read.ended read.Symbol.routine (λ _ (s, _) r _. Reads s.now r)
+pub reading : MeetsJust read_ended read.Symbol.name read.Symbol.code (λ _ (s, _) r _. Reads s.now r)
 reading M = read.Met.met
 
-pub starting : MeetsJust first.ended first.Symbol.routine (λ _ _ r _. First r)
+pub starting : MeetsJust first_ended first.Symbol.name first.Symbol.code (λ _ _ r _. First r)
 starting M = first.Met.met
 
-pub step-taken : MeetsJust step.ended step.Symbol.routine (λ _ (c, (s, _)) r _. Steps s.now c.at r)
+pub step-taken : MeetsJust step_ended step.Symbol.name step.Symbol.code (λ _ (c, (s, _)) r _. Steps s.now c.at r)
 step-taken M = step.Met.met
 
-pub entry_found_lem : MeetsJust entry.ended entry.Symbol.routine (λ _ (s, (start, (k, _))) r _. Entries s.now start k r)
+pub entry_found_lem : MeetsJust entry_ended entry.Symbol.name entry.Symbol.code (λ _ (s, (start, (k, _))) r _. Entries s.now start k r)
 entry_found_lem M = entry.Met.met
 
-pub writing : MeetsJust write.ended write.Symbol.routine (λ _ (t, (s, (l, _))) r (_, (_, (out, _))). Writes s.now t l.now out.now r)
+pub writing : MeetsJust write_ended write.Symbol.name write.Symbol.code (λ _ (t, (s, (l, _))) r (_, (_, (out, _))). Writes s.now t l.now out.now r)
 writing M = write.Met.met
 
-pub rewriting : MeetsJust rewrite.ended rewrite.Symbol.routine (λ _ (s, (l, _)) r (_, (out, _)). Rewrites s.now l.now out.now r)
+pub rewriting : MeetsJust rewrite_ended rewrite.Symbol.name rewrite.Symbol.code (λ _ (s, (l, _)) r (_, (out, _)). Rewrites s.now l.now out.now r)
 rewriting M = rewrite.Met.met
 
-pub made-fresh : MeetsJust fresh.ended fresh.Symbol.routine (λ _ _ r _. Fresh r)
+pub made-fresh : MeetsJust fresh_ended fresh.Symbol.name fresh.Symbol.code (λ _ _ r _. Fresh r)
 made-fresh M = fresh.Met.met
 
-pub checking : MeetsJust check.ended check.Symbol.routine (λ _ (l, _) r _. Checks l r)
+pub checking : MeetsJust check_ended check.Symbol.name check.Symbol.code (λ _ (l, _) r _. Checks l r)
 checking M = check.Met.met
 
-pub posting : MeetsJust post.ended post.Symbol.routine (λ _ (l, (s, (k, _))) r _. Posts l s.now k r)
+pub posting : MeetsJust post_ended post.Symbol.name post.Symbol.code (λ _ (l, (s, (k, _))) r _. Posts l s.now k r)
 posting M = post.Met.met
 
-pub posting_lent : MeetsJust post-lent.ended post-lent.Symbol.routine
+pub posting_lent : MeetsJust post_lent_ended post-lent.Symbol.name post-lent.Symbol.code
     (λ _ (l, (s, (k, _))) r (after, _). LentPosts l.now s.now k after.now r)
 posting_lent M = post-lent.Met.met
 
-pub loading : MeetsJust load.ended load.Symbol.routine (λ _ (s, _) r _. Loads s.now r)
+pub loading : MeetsJust load_ended load.Symbol.name load.Symbol.code (λ _ (s, _) r _. Loads s.now r)
 loading M = load.Met.met
 
-pub storing : MeetsJust store.ended store.Symbol.routine (λ _ (l, (o, _)) r (_, (out, _)). Stores l o.now out.now r)
+pub storing : MeetsJust store_ended store.Symbol.name store.Symbol.code (λ _ (l, (o, _)) r (_, (out, _)). Stores l o.now out.now r)
 storing M = store.Met.met
 
-pub turning_new : MeetsJust to-new.ended to-new.Symbol.routine (λ _ (s, (o, _)) r (_, (out, _)). Turns old new s.now o.now out.now r)
+pub turning_new : MeetsJust to_new_ended to-new.Symbol.name to-new.Symbol.code (λ _ (s, (o, _)) r (_, (out, _)). Turns old new s.now o.now out.now r)
 turning_new M = to-new.Met.met
 
-pub turning_old : MeetsJust to-old.ended to-old.Symbol.routine (λ _ (s, (o, _)) r (_, (out, _)). Turns new old s.now o.now out.now r)
+pub turning_old : MeetsJust to_old_ended to-old.Symbol.name to-old.Symbol.code (λ _ (s, (o, _)) r (_, (out, _)). Turns new old s.now o.now out.now r)
 turning_old M = to-old.Met.met
 
-pub beginning : MeetsJust next-block.ended next-block.Symbol.routine (λ _ (s, (over, _)) r _. Begins s.now over r)
+pub beginning : MeetsJust next_block_ended next-block.Symbol.name next-block.Symbol.code (λ _ (s, (over, _)) r _. Begins s.now over r)
 beginning M = next-block.Met.met
 
-pub door_version : MeetsJust wear-version.ended wear-version.Symbol.routine (λ _ _ r _. WearVersions r)
+pub door_version : MeetsJust wear_version_ended wear-version.Symbol.name wear-version.Symbol.code (λ _ _ r _. WearVersions r)
 door_version M = wear-version.Met.met
 
-pub door_read : MeetsJust wear-read.ended wear-read.Symbol.routine
+pub door_read : MeetsJust wear_read_ended wear-read.Symbol.name wear-read.Symbol.code
     (λ _ (s, (cells, _)) r (_, (after, _)). WearReads s.now cells.now after.now r)
 door_read M = wear-read.Met.met
 
-pub door_step : MeetsJust wear-step.ended wear-step.Symbol.routine
+pub door_step : MeetsJust wear_step_ended wear-step.Symbol.name wear-step.Symbol.code
     (λ _ (s, (start, (cells, _))) r (_, (_, (after, _))). WearSteps s.now start cells.now after.now r)
 door_step M = wear-step.Met.met
 
-pub door_entry : MeetsJust wear-entry.ended wear-entry.Symbol.routine
+pub door_entry : MeetsJust wear_entry_ended wear-entry.Symbol.name wear-entry.Symbol.code
     (λ _ (s, (start, (k, (cells, _)))) r (_, (_, (_, (after, _)))). WearEntries s.now start k cells.now after.now r)
 door_entry M = wear-entry.Met.met
 
-pub door_write : MeetsJust wear-write.ended wear-write.Symbol.routine
+pub door_write : MeetsJust wear_write_ended wear-write.Symbol.name wear-write.Symbol.code
     (λ _ (cells, (s, (l, (size, _)))) r (_, (_, (out, (after, _)))). WearWrites cells.now s.now l.now size.now out.now after.now r)
 door_write M = wear-write.Met.met
 
-pub door_rewrite : MeetsJust wear-rewrite.ended wear-rewrite.Symbol.routine
+pub door_rewrite : MeetsJust wear_rewrite_ended wear-rewrite.Symbol.name wear-rewrite.Symbol.code
     (λ _ (s, (l, (size, _))) r (_, (out, (after, _))). WearRewrites s.now l.now size.now out.now after.now r)
 door_rewrite M = wear-rewrite.Met.met
 
-pub door_to_new : MeetsJust wear-page-to-new.ended wear-page-to-new.Symbol.routine
+pub door_to_new : MeetsJust wear_page_to_new_ended wear-page-to-new.Symbol.name wear-page-to-new.Symbol.code
     (λ _ (page, (l, (size, _))) r (_, (out, (after, _))). WearTurns old new page.now l.now size.now out.now after.now r)
 door_to_new M = wear-page-to-new.Met.met
 
-pub door_to_old : MeetsJust wear-page-to-old.ended wear-page-to-old.Symbol.routine
+pub door_to_old : MeetsJust wear_page_to_old_ended wear-page-to-old.Symbol.name wear-page-to-old.Symbol.code
     (λ _ (page, (l, (size, _))) r (_, (out, (after, _))). WearTurns new old page.now l.now size.now out.now after.now r)
 door_to_old M = wear-page-to-old.Met.met
 
-pub door_post : MeetsJust wear-post.ended wear-post.Symbol.routine
+pub door_post : MeetsJust wear_post_ended wear-post.Symbol.name wear-post.Symbol.code
     (λ _ (page, (s, (k, (l, (size, _))))) r (_, (_, (_, (out, (after, _))))).
     WearPosts page.now s.now k l.now size.now out.now after.now r)
 door_post M = wear-post.Met.met
 
-pub door_feed : MeetsJust wear-feed.ended wear-feed.Symbol.routine
+pub door_feed : MeetsJust wear_feed_ended wear-feed.Symbol.name wear-feed.Symbol.code
     (λ _ (page, (s, (more, (l, (cells, _))))) r (_, (_, (_, (out, (after, _))))).
     WearFeeds page.now s.now more l.now cells.now out.now after.now r)
 door_feed M = wear-feed.Met.met

@@ -33,7 +33,7 @@ use Rattle.writing.specs.Same.{Same}
 use Rattle.writing.proofs.RewriteTheorems.{rewrite_read, rewrite_accepted}
 use Rattle.writing.proofs.ReadBackTheorems.{One}
 use Rattle.writing.proofs.SameRecords.{same_record}
-use Rattle.demands.specs.Contracts.{Reads, Steps, Rewrites}
+use Rattle.demands.specs.Operations.{Reads, Steps, Rewrites}
 use Rattle.demands.specs.Rewritten.{Hands, Twins, InTurnBy, InTurn}
 use Rattle.demands.specs.Toggles.{SameToggle}
 use Rattle.demands.proofs.Rewritten.{no_place, item-same, handed, in_turn-told, same_blocks, rewritten-octets, rewritten_steps}

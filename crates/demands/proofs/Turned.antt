@@ -12,7 +12,7 @@ use Rattle.octets.proofs.Outcomes.{puts-same}
 use Rattle.pages.specs.Pages.{old, new, page_of, rows_in, turn_of, untimed, NoTimes}
 use Rattle.pages.specs.declared.forms.Table.{Table}
 use Rattle.pages.proofs.TurnTheorems.{rows_new, rows-old, old-unknown, old_new_old, new_old_new, untimed-back, turned-long}
-use Rattle.demands.specs.Contracts.{Turns, WearTurns}
+use Rattle.demands.specs.Operations.{Turns, WearTurns}
 use Rattle.demands.proofs.GivenOutputs.{listed, goes_out, went_out}
 
 -- what was turned, of the n octets that went out

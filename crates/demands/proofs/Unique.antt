@@ -16,8 +16,8 @@ use Rattle.ledger.specs.declared.Ledger.{Ledger}
 use Rattle.ledger.proofs.CellLaws.{ledger_same}
 use Rattle.feed.specs.declared.block.Next.{Next}
 use Rattle.pages.specs.declared.forms.Table.{Table}
-use Rattle.demands.specs.Contracts.{Reads, First, Steps, Entries, Writes, Rewrites, Fresh, Checks, Posts, LentPosts, Loads, Stores, Turns, Begins}
-use Rattle.demands.specs.Contracts.{WearVersions, WearReads, WearSteps, WearEntries, WearWrites, WearRewrites, WearTurns, WearPosts, WearFeeds}
+use Rattle.demands.specs.Operations.{Reads, First, Steps, Entries, Writes, Rewrites, Fresh, Checks, Posts, LentPosts, Loads, Stores, Turns, Begins}
+use Rattle.demands.specs.Operations.{WearVersions, WearReads, WearSteps, WearEntries, WearWrites, WearRewrites, WearTurns, WearPosts, WearFeeds}
 
 pub one-reading : (s : List ℕ) (r q : Reading) → Reads s r → Reads s q → r ≡ q
 one-reading s r q h k = only h.0 k.0

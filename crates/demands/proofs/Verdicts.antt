@@ -24,7 +24,7 @@ use Rattle.ledger.specs.Reports.{entries_of, report_in, report_at, report_by, re
 use Rattle.ledger.specs.declared.Answer.{Answer}
 use Rattle.ledger.specs.declared.Ledger.{Ledger}
 use Rattle.ledger.proofs.RecordNumbers.{record_past, record_taken}
-use Rattle.demands.specs.Contracts.{Posts}
+use Rattle.demands.specs.Operations.{Posts}
 use Rattle.demands.specs.Verdicts.{Chosen, Verdict, broken, unread, missing, other, full, past, added}
 
 -- the refusal of a report that has entries

@@ -1,5 +1,5 @@
 pub mod Examples
-pub mod Contracts
+pub mod Operations
 pub mod Claims
 pub mod Runs
 pub mod Verdicts

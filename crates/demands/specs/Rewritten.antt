@@ -4,7 +4,7 @@ use Rattle.blocks.specs.declared.record.Record.{Record}
 use Rattle.blocks.specs.declared.cursor.Step.{Step}
 use Rattle.blocks.specs.declared.cursor.Found.{Found}
 use Rattle.writing.specs.Same.{Same}
-use Rattle.demands.specs.Contracts.{Steps, Entries}
+use Rattle.demands.specs.Operations.{Steps, Entries}
 
 -- a step from a start hands out this record and this next start
 abbrev pub Hands : List ℕ → ℕ → Record → ℕ → Type 0

@@ -1,13 +1,13 @@
 -- Demand 3 in words: a run of posts, the counters that a report names, room for them, and another order of a run.
 use Rattle.std.specs.Prelude.{true, List, [], ◌∷◌, map, ◌≡◌, ℕ, get_or}
-use Rattle.std.proofs.Common.{arith}
+use Rattle.std.proofs.Math.Nat.{zero-lt-suc}
 use Rattle.octets.specs.Numbers.{Octets}
 use Rattle.rows.specs.Posting.{Report, entries, names, Room as RowsRoom}
 use Rattle.rows.specs.Order.{upto, Order as ReportsOrder}
 use Rattle.ledger.specs.Ledgers.{answer, rows_of}
 use Rattle.ledger.specs.Reports.{report_of}
 use Rattle.ledger.specs.declared.Ledger.{Ledger}
-use Rattle.demands.specs.Contracts.{Posts}
+use Rattle.demands.specs.Operations.{Posts}
 
 -- what comes in: octets, and which record of them, from 0
 pub record Sent : Type 0 where
@@ -17,7 +17,7 @@ pub record Sent : Type 0 where
   pub k : ℕ
 
 abbrev pub nothing : Sent
-nothing = record { octets = []; are = λ i. omega arith; k = 0 }
+nothing = record { octets = []; are = λ i. zero-lt-suc 255; k = 0 }
 
 -- the first n records of octets, by number
 abbrev pub numbered : (s : List ℕ) → Octets s → ℕ → List Sent

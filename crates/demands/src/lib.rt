@@ -1,1 +1,3 @@
+#![tactic(auto)]
+
 // What was promised, on one page: see proofs/. There is no code here.

@@ -19,7 +19,7 @@ use Rattle.octets.specs.declared.output.Written.{Written}
 use Rattle.feed.specs.Blocks.{next_of, listed_next, next_listed}
 use Rattle.feed.specs.declared.block.Next.{Next}
 use Rattle.doors.specs.Cell.{cell_count, feed_cell_count}
-use Rattle.doors.specs.Answers.{version, isFew, refusalOr, cellsOr, readCells, stepCells, entryCells, putRefusal, putOutput, putLength, cellsWritten, pagePosted}
+use Rattle.doors.specs.Answers.{version, is_few, refusal_or, cells_or, read_cells, step_cells, entry_cells, put_refusal, put_output, put_length, cells_written, page_posted}
 use Rattle.doors.specs.Feeds.{is_over, feed_run, page_fed, feed_cells}
 
 -- blocks::walk::read: the octets, the answer
@@ -89,46 +89,46 @@ WearVersions r = r ≡ version
 
 -- the doors: whether too few cells are lent, the refusal and the values otherwise, the cells before and after, the refusal answered
 abbrev Lays : Bool → ℕ → List ℕ → List ℕ → List ℕ → ℕ → Type 0
-Lays few n values cells after r = (r ≡ refusalOr few n) × (after ≡ cellsOr few cells values)
+Lays few n values cells after r = (r ≡ refusal_or few n) × (after ≡ cells_or few cells values)
 
 -- doors::wear_read: the octets, the cells before and after, the refusal
 abbrev pub WearReads : List ℕ → List ℕ → List ℕ → ℕ → Type 0
-WearReads s cells after r = Lays (isFew 3 cells) (read_listed s).refusal (readCells (read_listed s)) cells after r
+WearReads s cells after r = Lays (is_few 3 cells) (read_listed s).refusal (read_cells (read_listed s)) cells after r
 
 -- doors::wear_step: the octets, the start, the cells before and after, the refusal
 abbrev pub WearSteps : List ℕ → ℕ → List ℕ → List ℕ → ℕ → Type 0
 WearSteps s start cells after r =
-    Lays (isFew (2 + cell_count) cells) (step_listed s start).refusal (stepCells (step_listed s start)) cells after r
+    Lays (is_few (2 + cell_count) cells) (step_listed s start).refusal (step_cells (step_listed s start)) cells after r
 
 -- doors::wear_entry: the octets, the record's start, the number of the entry, the cells before and after, the refusal
 abbrev pub WearEntries : List ℕ → ℕ → ℕ → List ℕ → List ℕ → ℕ → Type 0
-WearEntries s start k cells after r = Lays (isFew 4 cells) (entry_listed s start k).refusal (entryCells (entry_listed s start k)) cells after r
+WearEntries s start k cells after r = Lays (is_few 4 cells) (entry_listed s start k).refusal (entry_cells (entry_listed s start k)) cells after r
 
 -- the doors that put out: whether too few cells are lent, what is put out otherwise, the output and the length's cell before, the two after, the refusal
 abbrev pub PutsOut : Bool → Outcome → List ℕ → List ℕ → List ℕ → List ℕ → ℕ → Type 0
 PutsOut few x l size out after r =
-    (r ≡ putRefusal few (within (length l) x)) × (out ≡ putOutput few l (within (length l) x)) × (after ≡ putLength few size (within (length l) x))
+    (r ≡ put_refusal few (within (length l) x)) × (out ≡ put_output few l (within (length l) x)) × (after ≡ put_length few size (within (length l) x))
 
 -- doors::wear_write: the record's cells, the source, the output and the length's cell before, the two after, the refusal
 abbrev pub WearWrites : List ℕ → List ℕ → List ℕ → List ℕ → List ℕ → List ℕ → ℕ → Type 0
-WearWrites cells s l size out after r = PutsOut (isFew cell_count cells || isFew 1 size) (cellsWritten cells s) l size out after r
+WearWrites cells s l size out after r = PutsOut (is_few cell_count cells || is_few 1 size) (cells_written cells s) l size out after r
 
 -- doors::wear_rewrite: the octets, the output and the length's cell before, the two after, the refusal
 abbrev pub WearRewrites : List ℕ → List ℕ → List ℕ → List ℕ → List ℕ → ℕ → Type 0
-WearRewrites s l size out after r = PutsOut (isFew 1 size) (rewrite_of s) l size out after r
+WearRewrites s l size out after r = PutsOut (is_few 1 size) (rewrite_of s) l size out after r
 
 -- doors::wear_page_to_new and doors::wear_page_to_old: the tables of the page and of the one that it is turned into, the page, the output and the
 -- length's cell before, the two after, the refusal
 abbrev pub WearTurns : List Table → List Table → List ℕ → List ℕ → List ℕ → List ℕ → List ℕ → ℕ → Type 0
-WearTurns from to page l size out after r = PutsOut (isFew 1 size) (turn_of from to page) l size out after r
+WearTurns from to page l size out after r = PutsOut (is_few 1 size) (turn_of from to page) l size out after r
 
 -- doors::wear_post: the page, the octets, the record number, the output and the length's cell before, the two after, the refusal
 abbrev pub WearPosts : List ℕ → List ℕ → ℕ → List ℕ → List ℕ → List ℕ → List ℕ → ℕ → Type 0
-WearPosts page s k l size out after r = PutsOut (isFew 1 size) (pagePosted page s k) l size out after r
+WearPosts page s k l size out after r = PutsOut (is_few 1 size) (page_posted page s k) l size out after r
 
 -- doors::wear_feed: the page, the octets, whether more may come, the output and the cells before, the two after, the refusal
 abbrev pub WearFeeds : List ℕ → List ℕ → ℕ → List ℕ → List ℕ → List ℕ → List ℕ → ℕ → Type 0
 WearFeeds page s more l cells out after r =
-    let few = isFew feed_cell_count cells in
+    let few = is_few feed_cell_count cells in
     let x = within (length l) (page_fed page s (is_over more)) in
-    (r ≡ putRefusal few x) × (out ≡ putOutput few l x) × (after ≡ cellsOr few cells (feed_cells x (feed_run page s (is_over more))))
+    (r ≡ put_refusal few x) × (out ≡ put_output few l x) × (after ≡ cells_or few cells (feed_cells x (feed_run page s (is_over more))))
