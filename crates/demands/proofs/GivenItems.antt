@@ -25,7 +25,6 @@ use Rattle.items.specs.declared.typed.Item.{Item}
 use Rattle.items.specs.declared.typed.Item.TheVariants as item
 use Rattle.items.proofs.Entries.{entries_fit_lem}
 use Rattle.items.proofs.Judged.{placed-refusal}
-use Rattle.blocks.specs.Blocks.{all}
 use Rattle.blocks.specs.Meaning.{item_in}
 use Rattle.blocks.specs.Steps.{entry_values}
 use Rattle.blocks.specs.declared.record.Record.{Record}

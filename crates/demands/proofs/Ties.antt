@@ -53,7 +53,7 @@ use Rattle.doors.specs.contracts.wear_feed.{ended as wear_feed_ended}
 use Rattle.pages.specs.Pages.{old, new}
 use Rattle.demands.specs.Claims.{MeetsJust}
 use Rattle.demands.specs.Operations.{Reads, First, Steps, Entries, Writes, Rewrites, Fresh, Checks, Posts, LentPosts, Loads, Stores, Turns, Begins}
-use Rattle.demands.specs.Operations.{WearVersions, WearReads, WearSteps, WearEntries, WearWrites, WearRewrites, WearTurns, WearPosts, WearFeeds}
+use Rattle.demands.specs.DoorClaims.{door_versions, door_reads, door_steps, door_entries, door_writes, door_rewrites, door_turns_new, door_turns_old, door_posts, door_feeds}
 
 pub reading : MeetsJust read_ended read.Symbol.name read.Symbol.code (λ _ (s, _) r _. Reads s.now r)
 reading M = read.Met.met
@@ -101,43 +101,32 @@ turning_old M = to-old.Met.met
 pub beginning : MeetsJust next_block_ended next-block.Symbol.name next-block.Symbol.code (λ _ (s, (over, _)) r _. Begins s.now over r)
 beginning M = next-block.Met.met
 
-pub door_version : MeetsJust wear_version_ended wear-version.Symbol.name wear-version.Symbol.code (λ _ _ r _. WearVersions r)
+pub door_version : MeetsJust wear_version_ended wear-version.Symbol.name wear-version.Symbol.code door_versions
 door_version M = wear-version.Met.met
 
-pub door_read : MeetsJust wear_read_ended wear-read.Symbol.name wear-read.Symbol.code
-    (λ _ (s, (cells, _)) r (_, (after, _)). WearReads s.now cells.now after.now r)
+pub door_read : MeetsJust wear_read_ended wear-read.Symbol.name wear-read.Symbol.code door_reads
 door_read M = wear-read.Met.met
 
-pub door_step : MeetsJust wear_step_ended wear-step.Symbol.name wear-step.Symbol.code
-    (λ _ (s, (start, (cells, _))) r (_, (_, (after, _))). WearSteps s.now start cells.now after.now r)
+pub door_step : MeetsJust wear_step_ended wear-step.Symbol.name wear-step.Symbol.code door_steps
 door_step M = wear-step.Met.met
 
-pub door_entry : MeetsJust wear_entry_ended wear-entry.Symbol.name wear-entry.Symbol.code
-    (λ _ (s, (start, (k, (cells, _)))) r (_, (_, (_, (after, _)))). WearEntries s.now start k cells.now after.now r)
+pub door_entry : MeetsJust wear_entry_ended wear-entry.Symbol.name wear-entry.Symbol.code door_entries
 door_entry M = wear-entry.Met.met
 
-pub door_write : MeetsJust wear_write_ended wear-write.Symbol.name wear-write.Symbol.code
-    (λ _ (cells, (s, (l, (size, _)))) r (_, (_, (out, (after, _)))). WearWrites cells.now s.now l.now size.now out.now after.now r)
+pub door_write : MeetsJust wear_write_ended wear-write.Symbol.name wear-write.Symbol.code door_writes
 door_write M = wear-write.Met.met
 
-pub door_rewrite : MeetsJust wear_rewrite_ended wear-rewrite.Symbol.name wear-rewrite.Symbol.code
-    (λ _ (s, (l, (size, _))) r (_, (out, (after, _))). WearRewrites s.now l.now size.now out.now after.now r)
+pub door_rewrite : MeetsJust wear_rewrite_ended wear-rewrite.Symbol.name wear-rewrite.Symbol.code door_rewrites
 door_rewrite M = wear-rewrite.Met.met
 
-pub door_to_new : MeetsJust wear_page_to_new_ended wear-page-to-new.Symbol.name wear-page-to-new.Symbol.code
-    (λ _ (page, (l, (size, _))) r (_, (out, (after, _))). WearTurns old new page.now l.now size.now out.now after.now r)
+pub door_to_new : MeetsJust wear_page_to_new_ended wear-page-to-new.Symbol.name wear-page-to-new.Symbol.code door_turns_new
 door_to_new M = wear-page-to-new.Met.met
 
-pub door_to_old : MeetsJust wear_page_to_old_ended wear-page-to-old.Symbol.name wear-page-to-old.Symbol.code
-    (λ _ (page, (l, (size, _))) r (_, (out, (after, _))). WearTurns new old page.now l.now size.now out.now after.now r)
+pub door_to_old : MeetsJust wear_page_to_old_ended wear-page-to-old.Symbol.name wear-page-to-old.Symbol.code door_turns_old
 door_to_old M = wear-page-to-old.Met.met
 
-pub door_post : MeetsJust wear_post_ended wear-post.Symbol.name wear-post.Symbol.code
-    (λ _ (page, (s, (k, (l, (size, _))))) r (_, (_, (_, (out, (after, _))))).
-    WearPosts page.now s.now k l.now size.now out.now after.now r)
+pub door_post : MeetsJust wear_post_ended wear-post.Symbol.name wear-post.Symbol.code door_posts
 door_post M = wear-post.Met.met
 
-pub door_feed : MeetsJust wear_feed_ended wear-feed.Symbol.name wear-feed.Symbol.code
-    (λ _ (page, (s, (more, (l, (cells, _))))) r (_, (_, (_, (out, (after, _))))).
-    WearFeeds page.now s.now more l.now cells.now out.now after.now r)
+pub door_feed : MeetsJust wear_feed_ended wear-feed.Symbol.name wear-feed.Symbol.code door_feeds
 door_feed M = wear-feed.Met.met

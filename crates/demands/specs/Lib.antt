@@ -1,6 +1,7 @@
 pub mod Examples
 pub mod Operations
 pub mod Claims
+pub mod DoorClaims
 pub mod Runs
 pub mod Verdicts
 pub mod Given

@@ -1,4 +1,3 @@
--- The loop's invariant: the values before i are laid. The measure is how many are left. Assumes nothing.
 use mathlib.Core.Path.{◌≡◌, sym, ap, ◌∙◌}
 use mathlib.Core.List.{List, [], ◌∷◌}
 use Prim.Native.Nat.{ℕ, ◌+◌, ◌≤◌, ◌<◌}
@@ -29,10 +28,6 @@ module _ (l v : List ℕ) (o : ℕ) (room : o + length v ≤ length l) where
       ∙ ap (λ (n : ℕ). laid (laid l o (take i v)) (o + n) (get_or v i 0 ∷ [])) (sym long)
       ∙ laid-laid l o (take i v) (get_or v i 0 ∷ []) fits
       ∙ rw (add-one, take-suc v i 0 h)
-
-  -- the cells keep their number
-  kept : {k : List ℕ} (i : ℕ) → i ≤ length v → k ≡ laid l o (take i v) → length k ≡ length l
-  kept i h e = ap length e ∙ same i h
 
 pub loop-i-init : goal.loop-i-init
 loop-i-init c = (search rules, none _ _)

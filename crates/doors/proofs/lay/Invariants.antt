@@ -1,3 +1,4 @@
+-- The loop's invariant: the values before i are laid. The measure is how many are left. Assumes nothing.
 use mathlib.Core.Path.{◌≡◌}
 use Prim.Native.Nat.{◌-◌, ◌≤◌}
 use lib.ListN.{length, take}

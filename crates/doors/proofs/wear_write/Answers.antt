@@ -1,24 +1,18 @@
 -- `wear_write`: too few cells, cells refused, or what `write` says of their record. Assumes nothing.
 use mathlib.Core.Path.{◌≡◌, refl}
-use mathlib.Core.Bool.{true, false, ◌||◌}
+use mathlib.Core.Bool.{false, ◌||◌}
 use mathlib.Core.List.{List}
-use Prim.Native.Nat.{ℕ, ◌≤◌, ◌<◌}
+use Prim.Native.Nat.{ℕ, ◌≤◌}
 use lib.ListN.{length}
-use borrow.Author.Tests.{lt-ltb, le-ltb}
+use borrow.Author.Tests.{le-ltb}
 use Rattle.octets.proofs.Outcomes.{says-no}
 use Rattle.doors.specs.Cell.{cell_count}
 use Rattle.doors.specs.Answers.{is_few, cells_written}
 use Rattle.doors.proofs.DoorSteps.{put_all, cells_refused, cells_taken}
 use Rattle.doors.proofs.wear_write.Goals as goal
 
--- too few of either
+-- enough of both
 module _ (cs size : List ℕ) where
-  first : length cs < cell_count → (is_few cell_count cs || is_few 1 size) ≡ true
-  first h = rw (lt-ltb (length cs) cell_count h)
-
-  second : cell_count ≤ length cs → length size < 1 → (is_few cell_count cs || is_few 1 size) ≡ true
-  second g h = rw (le-ltb (length cs) cell_count g) (lt-ltb (length size) 1 h)
-
   neither : cell_count ≤ length cs → 1 ≤ length size → (is_few cell_count cs || is_few 1 size) ≡ false
   neither g h = rw (le-ltb (length cs) cell_count g) (le-ltb (length size) 1 h)
 

@@ -1,4 +1,3 @@
--- `fresh`: the loop's invariant is that the places so far are empty. Assumes nothing.
 use Rattle.ledger.proofs.ChangeLaws.{emptied_all}
 use Rattle.ledger.proofs.fresh.Goals as goal
 

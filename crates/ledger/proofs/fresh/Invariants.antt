@@ -1,3 +1,4 @@
+-- `fresh`: the loop's invariant is that the places so far are empty. Assumes nothing.
 use Prim.Native.Nat.{◌-◌}
 use Rattle.ledger.proofs.ChangeLaws.{Emptied}
 use Rattle.ledger.proofs.fresh.Given as goal

@@ -1,3 +1,4 @@
+-- `read`: the octets that lie in the slice, and then zeros. Assumes nothing.
 use Rattle.std.proofs.Common.{◌-◌, ◌≡◌, ◌+◌, ◌≤◌, ◌<◌, ◌^◌, length}
 use Rattle.octets.specs.Numbers.{number}
 use Rattle.octets.proofs.read.Given as goal

@@ -1,3 +1,4 @@
+-- `spelled`: the loop has the number of the octets passed. Assumes nothing.
 use Rattle.std.proofs.Common.{◌≡◌, ◌≤◌, ◌<◌, ◌^◌, ◌-◌}
 use Rattle.octets.specs.Numbers.{number}
 use Rattle.octets.proofs.spelled.Given as goal

@@ -1,3 +1,4 @@
+-- `emit_all`: the loop's invariant is that the octets from the i-th on are still to be put. Assumes nothing.
 use Rattle.std.proofs.Common.{◌≡◌, ℕ, ◌-◌, [], ◌∷◌, length}
 use Rattle.text.specs.Gathered.{gathered}
 use Rattle.text.proofs.GatheredLaws as laws

@@ -1,3 +1,4 @@
+-- `hex`: the loop's invariant is that the digits of the octets from the i-th on are still to be put. Assumes nothing.
 use Rattle.std.proofs.Common.{◌≡◌, ◌-◌, length}
 use Rattle.text.specs.Digits.{hex_pair}
 use Rattle.text.specs.Gathered.{gathered}

@@ -1,3 +1,4 @@
+-- `more`: the loop's invariant is that the numbers from the i-th on are still to be put. Assumes nothing.
 use Rattle.std.proofs.Common.{◌≡◌, ◌-◌, length}
 use Rattle.text.specs.Digits.{blank_number}
 use Rattle.text.specs.Gathered.{gathered}

@@ -1,3 +1,4 @@
+-- `run_all` ends with its turns. The loop's invariant: what is lent keeps its length. Assumes nothing.
 use Rattle.std.proofs.Common.{◌≡◌, length}
 use Rattle.vectors.proofs.run_all.Given as goal
 

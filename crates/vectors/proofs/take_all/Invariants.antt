@@ -1,3 +1,4 @@
+-- `take_all` reads below the slice's length only. The loop's invariant: what is lent keeps its length. Assumes nothing.
 use Rattle.std.proofs.Common.{◌≡◌, ◌-◌, length}
 use Rattle.vectors.proofs.take_all.Given as goal
 

@@ -1,4 +1,3 @@
--- `turns`: at the loop's head octets have come, one at least with each turn, and the run over them waits. Assumes nothing.
 use Rattle.std.proofs.Common.{[], ◌∙◌, refl, arith}
 use Rattle.wear.proofs.TurnLaws as laws
 use Rattle.wear.proofs.turns.Goals as goal

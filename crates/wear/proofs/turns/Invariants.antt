@@ -1,3 +1,4 @@
+-- `turns`: at the loop's head octets have come, one at least with each turn, and the run over them waits. Assumes nothing.
 use Rattle.std.proofs.Common.{◌≡◌, ℕ, ◌+◌, ◌-◌, ◌≤◌, ◌^◌, List, length}
 use Rattle.wear.specs.declared.reads.Going.{Going}
 use Rattle.wear.proofs.TurnLaws as laws

@@ -1,3 +1,4 @@
+-- The loop goes from the last octet to the first. Its invariant: the number has the marks of the octets behind i. Assumes nothing.
 use mathlib.Core.Path.{◌≡◌}
 use Prim.Native.Nat.{◌+◌, ◌-◌, ◌^◌, ◌≤◌, ◌<◌}
 use Rattle.blocks.specs.Specification.{flags}

@@ -1,4 +1,3 @@
--- The loop goes from field to field, and halves the marks left. Assumes nothing.
 use mathlib.Core.Path.{refl}
 use native.Mathlib.Omega.{arith}
 use Rattle.blocks.proofs.NextLaws as laws

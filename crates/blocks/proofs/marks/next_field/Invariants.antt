@@ -1,3 +1,4 @@
+-- The loop goes from field to field, and halves the marks left. Assumes nothing.
 use Prim.Native.Nat.{◌-◌}
 use Rattle.blocks.proofs.NextLaws as laws
 use Rattle.blocks.proofs.marks.next_field.Given as goal

@@ -1,4 +1,3 @@
--- The loop goes from field to field; all before are as the rules of the record's type ask. Assumes nothing.
 use mathlib.Core.Path.{ap}
 use mathlib.Core.Bool.{not}
 use native.Mathlib.Omega.{arith}

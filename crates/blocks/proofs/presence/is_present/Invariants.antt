@@ -1,3 +1,4 @@
+-- The loop goes from field to field; all before are as the rules of the record's type ask. Assumes nothing.
 use Prim.Native.Nat.{◌-◌, ◌+◌}
 use Rattle.blocks.proofs.PresenceLaws as laws
 use Rattle.blocks.proofs.presence.is_present.Given as goal

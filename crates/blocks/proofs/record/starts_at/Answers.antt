@@ -1,4 +1,3 @@
--- `starts_at`. The loop's invariant: the fields before f are done, and f is marked. The measure is what is left of the fields. Assumes nothing.
 use Prim.Native.Nat.{◌≤◌}
 use native.Mathlib.Omega.{arith}
 use lib.ListN.{length}

@@ -1,3 +1,4 @@
+-- `starts_at`. The loop's invariant: the fields before f are done, and f is marked. The measure is what is left of the fields. Assumes nothing.
 use Prim.Native.Nat.{◌+◌, ◌-◌}
 use Rattle.layouts.specs.Categories.{category}
 use Rattle.blocks.proofs.RecordStarts.{Walking}

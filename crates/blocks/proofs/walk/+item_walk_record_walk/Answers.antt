@@ -1,10 +1,23 @@
 -- `item_walk`, which calls itself, and `record_walk`, which call each other: a case for each branch. Assumes nothing.
-use mathlib.Core.Path.{sym, ◌∙◌}
+use mathlib.Core.Bool.{true}
+use mathlib.Core.List.{List}
+use mathlib.Core.Path.{◌≡◌, sym, ◌∙◌}
+use Prim.Native.Nat.{ℕ, ◌-◌}
 use native.Mathlib.Omega.{arith}
 use borrow.Author.Rules.{rules}
-use Rattle.layouts.specs.Categories.{category}
+use Rattle.octets.specs.Numbers.{Octets}
+use Rattle.octets.specs.Refusals.{long_specification}
+use Rattle.layouts.specs.Ends.{chain_end}
+use Rattle.layouts.specs.Categories.{category, known}
+use Rattle.layouts.specs.declared.ends.End.{End}
+use Rattle.layouts.specs.declared.ends.End.TheVariants.{At}
 use Rattle.blocks.proofs.WalkSteps as steps
 use Rattle.blocks.proofs.walk.+item_walk_record_walk.Goals as goal
+
+-- what `record_walk` knows where a specification ends
+spec_ends : (s : List ℕ) (len cat at p : ℕ) {most : ℕ} {e : End} → known cat ≡ true → most ≡ (category cat).most
+    → e ≡ chain_end s len long_specification 1 (most - 1) at → e ≡ At p → Octets s → steps.Spec s len (category cat) at p
+spec_ends s len cat at p k m ends is o = steps.spec_at _ _ _ _ _ (steps.table cat k) _ m _ (sym is ∙ ends) o
 
 pub item_walk-returns-then-is_present : goal.item_walk-returns-then-is_present
 item_walk-returns-then-is_present t c =
@@ -41,32 +54,32 @@ record_walk-returns-then-len-at t c = steps.run_end _ _ _ _ _ _ c.if-len-at.true
 
 pub record_walk-overflow_sub-p : goal.record_walk-overflow_sub-p
 record_walk-overflow_sub-p t c =
-    let w : steps.Spec c.args.s.now c.args.len (category c.args.cat) c.args.at c.in-At.p =
-    steps.spec_at _ _ _ _ _ (steps.table c.args.cat c.requires.2) _ c.most_of.ensures _
-    (sym c.in-At.is ∙ c.specification_end-end.ensures.0) (λ j. (c.type_inv.s j).fits) in
+    let w =
+    spec_ends c.args.s.now c.args.len c.args.cat c.args.at c.in-At.p c.requires.2
+    c.most_of.ensures c.specification_end-end.ensures.0 c.in-At.is (λ j. (c.type_inv.s j).fits) in
     omega arith
 
 pub record_walk-marks_at-marks-requires : goal.record_walk-marks_at-marks-requires
 record_walk-marks_at-marks-requires t c =
-    let w : steps.Spec c.args.s.now c.args.len (category c.args.cat) c.args.at c.in-At.p =
-    steps.spec_at _ _ _ _ _ (steps.table c.args.cat c.requires.2) _ c.most_of.ensures _
-    (sym c.in-At.is ∙ c.specification_end-end.ensures.0) (λ j. (c.type_inv.s j).fits) in
+    let w =
+    spec_ends c.args.s.now c.args.len c.args.cat c.args.at c.in-At.p c.requires.2
+    c.most_of.ensures c.specification_end-end.ensures.0 c.in-At.is (λ j. (c.type_inv.s j).fits) in
     (omega arith, omega arith)
 
 pub record_walk-returns-then-n-ne-ACCEPTED : goal.record_walk-returns-then-n-ne-ACCEPTED
 record_walk-returns-then-n-ne-ACCEPTED t c =
     let z = c.args in
-    let w : steps.Spec z.s.now z.len (category z.cat) z.at c.in-At.p =
-    steps.spec_at _ _ _ _ _ (steps.table z.cat c.requires.2) _ c.most_of.ensures _
-    (sym c.in-At.is ∙ c.specification_end-end.ensures.0) (λ j. (c.type_inv.s j).fits) in
+    let w =
+    spec_ends c.args.s.now c.args.len c.args.cat c.args.at c.in-At.p c.requires.2
+    c.most_of.ensures c.specification_end-end.ensures.0 c.in-At.is (λ j. (c.type_inv.s j).fits) in
     steps.record_unmarked _ _ _ _ _ (steps.table z.cat c.requires.2) _ w _ _ c.if-len-at.false (omega arith)
     _ c.marks_at-marks.ensures _ c.marks_refusal-n.ensures c.if-n-ne-ACCEPTED.true
 
 pub record_walk-item_walk-requires : goal.record_walk-item_walk-requires
 record_walk-item_walk-requires t c =
-    let w : steps.Spec c.args.s.now c.args.len (category c.args.cat) c.args.at c.in-At.p =
-    steps.spec_at _ _ _ _ _ (steps.table c.args.cat c.requires.2) _ c.most_of.ensures _
-    (sym c.in-At.is ∙ c.specification_end-end.ensures.0) (λ j. (c.type_inv.s j).fits) in
+    let w =
+    spec_ends c.args.s.now c.args.len c.args.cat c.args.at c.in-At.p c.requires.2
+    c.most_of.ensures c.specification_end-end.ensures.0 c.in-At.is (λ j. (c.type_inv.s j).fits) in
     (omega arith, (omega arith, omega arith, search rules, omega arith, omega arith, omega arith, sym c.marks_refusal-n.ensures ∙ c.if-n-ne-ACCEPTED.false))
 
 pub record_walk-returns-in-Refused : goal.record_walk-returns-in-Refused
@@ -78,8 +91,8 @@ record_walk-returns-in-Refused t c =
 pub record_walk-returns-else-n-ne-ACCEPTED : goal.record_walk-returns-else-n-ne-ACCEPTED
 record_walk-returns-else-n-ne-ACCEPTED t c =
     let z = c.args in
-    let w : steps.Spec z.s.now z.len (category z.cat) z.at c.in-At.p =
-    steps.spec_at _ _ _ _ _ (steps.table z.cat c.requires.2) _ c.most_of.ensures _
-    (sym c.in-At.is ∙ c.specification_end-end.ensures.0) (λ j. (c.type_inv.s j).fits) in
+    let w =
+    spec_ends c.args.s.now c.args.len c.args.cat c.args.at c.in-At.p c.requires.2
+    c.most_of.ensures c.specification_end-end.ensures.0 c.in-At.is (λ j. (c.type_inv.s j).fits) in
     steps.record_items _ _ _ _ _ (steps.table z.cat c.requires.2) _ w _ _ c.if-len-at.false (omega arith)
     _ c.marks_at-marks.ensures _ c.marks_refusal-n.ensures c.if-n-ne-ACCEPTED.false _ c.item_walk.ensures

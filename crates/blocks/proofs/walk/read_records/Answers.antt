@@ -1,5 +1,3 @@
--- `read_records`: the loop's invariant is what the block answers with the records passed so far, the measure what is left of LEN.
--- Assumes nothing.
 use mathlib.Core.Path.{sym, ◌∙◌}
 use native.Mathlib.Omega.{arith}
 use Rattle.blocks.proofs.ReadSteps as steps

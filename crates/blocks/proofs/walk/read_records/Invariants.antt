@@ -1,3 +1,5 @@
+-- `read_records`: the loop's invariant is what the block answers with the records passed so far, the measure what is left of LEN.
+-- Assumes nothing.
 use Prim.Native.Nat.{◌-◌}
 use Rattle.layouts.specs.Categories.{category}
 use Rattle.blocks.proofs.ReadSteps as steps

@@ -4,13 +4,13 @@ use Rattle.feed.proofs.NextLaws.{next-few, next-ended, next-cut, next_low, next-
 use Rattle.feed.proofs.block.next_block.Goals as goal
 
 pub returns-then-not-is_over : goal.returns-then-not-is_over
-returns-then-not-is_over c = next-told _ _ _ (next-few _ _ c.if-size-lt3.true (c.if-not-is_over.true))
+returns-then-not-is_over c = next-told _ _ _ (next-few _ _ c.if-size-lt3.true c.if-not-is_over.true)
 
 pub returns-then-size-eq0 : goal.returns-then-size-eq0
-returns-then-size-eq0 c = next-told _ _ _ (next-ended _ _ c.if-size-lt3.true (c.if-not-is_over.false) c.if-size-eq0.true)
+returns-then-size-eq0 c = next-told _ _ _ (next-ended _ _ c.if-size-lt3.true c.if-not-is_over.false c.if-size-eq0.true)
 
 pub returns-then-size-lt3 : goal.returns-then-size-lt3
-returns-then-size-lt3 c = next-told _ _ _ (next-cut _ _ c.if-size-lt3.true (c.if-not-is_over.false) c.if-size-eq0.false)
+returns-then-size-lt3 c = next-told _ _ _ (next-cut _ _ c.if-size-lt3.true c.if-not-is_over.false c.if-size-eq0.false)
 
 pub returns-then-len-lt4 : goal.returns-then-len-lt4
 returns-then-len-lt4 c = next-told _ _ _ (next_low _ _ c.if-size-lt3.false _ c.read2-len.ensures c.if-len-lt4.true)

@@ -1,5 +1,3 @@
--- `post_block`: the loop's invariant is that the records from the offset on are still to be posted, the measure what is left of LEN.
--- Assumes nothing.
 use mathlib.Core.Path.{◌∙◌}
 use native.Mathlib.Omega.{arith}
 use Rattle.feed.proofs.BlockReports.{head}

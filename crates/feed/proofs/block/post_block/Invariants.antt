@@ -1,3 +1,5 @@
+-- `post_block`: the loop's invariant is that the records from the offset on are still to be posted, the measure what is left of LEN.
+-- Assumes nothing.
 use Prim.Native.Nat.{◌-◌}
 use Rattle.feed.proofs.BlockSteps as steps
 use Rattle.feed.proofs.block.post_block.Given as goal

@@ -1,4 +1,3 @@
--- `run`: the loop's invariant is that the run from the offset on is still to be done, the measure how many blocks may follow. Assumes nothing.
 use mathlib.Core.Path.{sym, ◌∙◌}
 use native.Mathlib.Omega.{arith}
 use Rattle.feed.proofs.RunSteps as steps

@@ -1,3 +1,4 @@
+-- `run`: the loop's invariant is that the run from the offset on is still to be done, the measure how many blocks may follow. Assumes nothing.
 use Rattle.ledger.specs.Ledgers.{rows_of}
 use Rattle.feed.specs.Runs.{state}
 use Rattle.feed.proofs.RunSteps as steps

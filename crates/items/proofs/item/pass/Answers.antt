@@ -1,28 +1,15 @@
 -- `pass`: an item of fixed length by its room and its values, another by where its kind ends it. Assumes nothing.
 use mathlib.Core.Path.{◌≡◌, sym, ◌∙◌}
-use mathlib.Core.List.{[], ◌∷◌}
 use Prim.Native.Nat.{ℕ}
 use native.Mathlib.Omega.{arith}
-use denote.Enum.Declared.{declared, tag_of}
-use types.Run.{OneOf}
 use Rattle.layouts.specs.declared.ends.Kind.{Kind}
 use Rattle.layouts.proofs.KindEnds.{end-told}
-use Rattle.layouts.specs.contracts.ends.Kind.{enum}
 use Rattle.items.proofs.Passed.{fixed-refused, fixed-at}
-use Rattle.items.proofs.ValueLaws.{each_of}
 use Rattle.items.proofs.item.pass.Goals as goal
 
 -- two kinds
 repeated-fixed : {k : Kind} (m n : ℕ) → k ≡ Kind.Repeated m → k ≡ Kind.Fixed n → ⊥
 repeated-fixed m n h e = let z : ◌≡◌ {A = ℕ} 0 1 = cc in omega arith
-
--- none of the kinds that are left is fixed
-left-fixed : (k : Kind) → OneOf (0 ∷ 2 ∷ 4 ∷ []) (tag_of (declared enum) k) → (n : ℕ) → k ≡ Kind.Fixed n → ⊥
-left-fixed k w =
-    each_of enum (λ (k : Kind). (n : ℕ) → k ≡ Kind.Fixed n → ⊥) (0 ∷ 2 ∷ 4 ∷ []) k w
-    (λ v n h. let z : ◌≡◌ {A = ℕ} 0 1 = cc in omega arith)
-    (λ v n h. let z : ◌≡◌ {A = ℕ} 0 1 = cc in omega arith)
-    (λ v n h. let z : ◌≡◌ {A = ℕ} 0 1 = cc in omega arith)
 
 pub returns-then-len-at : goal.returns-then-len-at
 returns-then-len-at c =

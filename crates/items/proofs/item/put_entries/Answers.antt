@@ -1,10 +1,8 @@
--- `put_entries`: laying all entries is laying those from q at p, since those before lie there. Assumes nothing.
 use mathlib.Core.Path.{◌≡◌, sym, ◌∙◌}
 use mathlib.Core.List.{List}
 use Prim.Native.Nat.{ℕ, zero, suc, ◌+◌, ◌*◌, ◌-◌, ◌≤◌, ◌<◌}
 use native.Mathlib.Nat.{suc-mul}
 use native.Mathlib.Omega.{arith}
-use lib.Dec.{lit≤}
 use lib.ListN.{length}
 use Rattle.octets.specs.Numbers.{number, octets, laid}
 use Rattle.octets.proofs.Numbers.{length-octets}
@@ -14,31 +12,9 @@ use Rattle.layouts.specs.Formats.{put}
 use Rattle.layouts.specs.Layouts.{times, entry_group}
 use Rattle.layouts.specs.Tables.{layout}
 use Rattle.layouts.specs.Offsets.{groups_at}
-use Rattle.layouts.specs.declared.form.Form.{Form}
-use Rattle.layouts.specs.declared.form.Form.TheVariants as form
 use Rattle.items.proofs.Entries.{entries}
 use borrow.Author.Rules.{rules}
 use Rattle.items.proofs.item.put_entries.Goals as goal
-
--- an entry's octets are read as one number
-small : (f : Form) → (entry_group (layout f)).wide ≤ 8
-small form.Spare = lit≤ tt
-small form.Source = lit≤ tt
-small form.MessageType = lit≤ tt
-small form.Service = lit≤ tt
-small form.Identification = lit≤ tt
-small form.Time = lit≤ tt
-small form.Batch = lit≤ tt
-small form.Sdps = lit≤ tt
-small form.Report = lit≤ tt
-small form.Station = lit≤ tt
-small form.Configuration = lit≤ tt
-small form.Range = lit≤ tt
-small form.Status = lit≤ tt
-small form.Statistics = lit≤ tt
-small form.Versions = lit≤ tt
-small form.Expansion = lit≤ tt
-small form.Purpose = lit≤ tt
 
 -- the octets of n entries are those of one less and of one
 one_less : (n w : ℕ) → 0 < n → n * w ≡ (n - 1) * w + w

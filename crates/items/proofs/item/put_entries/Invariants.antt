@@ -1,3 +1,4 @@
+-- `put_entries`: laying all entries is laying those from q at p, since those before lie there. Assumes nothing.
 use mathlib.Core.Path.{◌≡◌}
 use Prim.Native.Nat.{◌+◌, ◌*◌, ◌≤◌}
 use lib.ListN.{length}

@@ -2,7 +2,7 @@
 use mathlib.Core.Path.{◌≡◌, refl, sym, ap, ◌∙◌}
 use mathlib.Core.Bool.{Bool, true}
 use mathlib.Core.List.{List, [], ◌∷◌}
-use Prim.Native.Nat.{ℕ, ◌+◌, ◌-◌, ◌*◌, ◌%◌, ◌≤◌}
+use Prim.Native.Nat.{ℕ, ◌+◌, ◌-◌, ◌%◌, ◌≤◌}
 use native.Mathlib.Nat.{sub-zero}
 use native.Mathlib.Omega.{arith}
 use lib.ListN.{length, get_or}
@@ -23,7 +23,7 @@ use Rattle.layouts.specs.contracts.form.Form.{enum}
 use Rattle.layouts.proofs.KindEnds.{flagged}
 use Rattle.items.proofs.Entries.{fits-ranged, entries_fit_lem, entries-free, counter-free, octet-free}
 use Rattle.items.proofs.Passed.{pass_read}
-use Rattle.items.proofs.Ranges.{extended_fits, extended-room, status-fits, counted-fits, counted-room}
+use Rattle.items.proofs.Ranges.{extended_fits, extended-room, status-fits, counted-fits}
 use Rattle.items.proofs.ValueLaws.{each_of}
 use borrow.Enum.Refused.{opened}
 use Rattle.items.proofs.item.varying_fits.Goals as goal
@@ -62,9 +62,6 @@ module _ (s : List ℕ) (o : Octets s) (at : ℕ) (f : Form) (a : Asked s at f) 
   module _ (e : ℕ) (g : Group) (is : of f ≡ counted e g) where
     entries-read : run_at s a.1.0 (counted e g) at ≡ got read.0 a.1.1
     entries-read = rw is at read.1
-
-    entries-room : at + 1 + (get_or s at 0 - e) * g.wide ≤ length s
-    entries-room = omega (arith, a.1.2, counted-room s a.1.0 o e g at read.0 a.1.1 entries-read a.1.2)
 
     entries_fit : entries_fit_lem (get_or s at 0 - e) g s (at + 1) ≡ answer s at f
     entries_fit = rw is (counted-fits s a.1.0 o e g at read.0 a.1.1 entries-read)

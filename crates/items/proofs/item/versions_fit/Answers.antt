@@ -1,4 +1,3 @@
--- `versions_fit`: the entries from p fit where all of them do, since those before p fit. Assumes nothing.
 use mathlib.Core.Path.{◌≡◌, refl, sym, ◌∙◌}
 use mathlib.Core.Bool.{true, ◌&&◌, and-true}
 use mathlib.Core.List.{List}

@@ -1,3 +1,4 @@
+-- `versions_fit`: the entries from p fit where all of them do, since those before p fit. Assumes nothing.
 use mathlib.Core.Path.{◌≡◌}
 use Prim.Native.Nat.{◌+◌, ◌*◌, ◌≤◌}
 use lib.ListN.{length}

@@ -1,5 +1,3 @@
--- The loop's invariant: from p the chain ends where it ends from the first part. The measure is how many octets more there may be.
--- Assumes nothing.
 use mathlib.Core.Path.{◌≡◌, refl, sym, ◌∙◌}
 use mathlib.Core.List.{List}
 use Prim.Native.Nat.{ℕ, zero, suc, ◌+◌, ◌-◌, ◌%◌, ◌≤◌, ◌<◌}

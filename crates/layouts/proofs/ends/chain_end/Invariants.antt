@@ -1,3 +1,5 @@
+-- The loop's invariant: from p the chain ends where it ends from the first part. The measure is how many octets more there may be.
+-- Assumes nothing.
 use mathlib.Core.Path.{◌≡◌}
 use Prim.Native.Nat.{◌≤◌, ◌<◌}
 use Rattle.layouts.specs.Ends.{chain_end}

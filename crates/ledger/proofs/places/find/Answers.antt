@@ -1,5 +1,3 @@
--- `find`: the loop's invariant is that every key before `low` is below the one looked for and the key at `high` is not, the measure how
--- far they are apart. Assumes nothing.
 use mathlib.Core.Path.{ap}
 use Prim.Native.Nat.{◌<◌, ◌+◌, ◌-◌, ◌/◌}
 use native.Mathlib.Omega.{arith}

@@ -1,3 +1,5 @@
+-- `find`: the loop's invariant is that every key before `low` is below the one looked for and the key at `high` is not, the measure how
+-- far they are apart. Assumes nothing.
 use Prim.Native.Nat.{ℕ, ◌≤◌, ◌<◌, ◌-◌}
 use Rattle.ledger.specs.Ledgers.{row_in, count_of}
 use Rattle.ledger.proofs.places.find.Given as goal

@@ -1,3 +1,4 @@
+-- `open`: the loop's invariant is that from behind `j` on each place has the row that stood before it. Assumes nothing.
 use Prim.Native.Nat.{◌≤◌}
 use Rattle.ledger.proofs.ChangeLaws.{Shifted}
 use Rattle.ledger.proofs.places.open.Given as goal

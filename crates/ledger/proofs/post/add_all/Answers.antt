@@ -1,4 +1,3 @@
--- `add_all`: the loop's invariant is that the ledger with the entries left is the one asked for. Assumes nothing.
 use mathlib.Core.Bool.{true≢false}
 use mathlib.Core.Path.{sym, ap, ◌∙◌}
 use native.Mathlib.Omega.{arith}

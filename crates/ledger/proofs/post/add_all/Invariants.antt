@@ -1,3 +1,4 @@
+-- `add_all`: the loop's invariant is that the ledger with the entries left is the one asked for. Assumes nothing.
 use Prim.Native.Nat.{◌-◌}
 use Rattle.ledger.proofs.LoopSteps as steps
 use Rattle.ledger.proofs.post.add_all.Given as goal

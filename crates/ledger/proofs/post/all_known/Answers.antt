@@ -1,4 +1,3 @@
--- `all_known`: the loop's invariant is that the entries so far have places. Assumes nothing.
 use Rattle.ledger.proofs.KnownLaws.{noted-same, placed_end}
 use borrow.Author.Rules.{rules}
 use Rattle.ledger.proofs.post.all_known.Goals as goal

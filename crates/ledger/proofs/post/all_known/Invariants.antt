@@ -1,3 +1,4 @@
+-- `all_known`: the loop's invariant is that the entries so far have places. Assumes nothing.
 use Prim.Native.Nat.{◌-◌}
 use Rattle.ledger.proofs.KnownLaws.{Placed}
 use Rattle.ledger.proofs.post.all_known.Given as goal

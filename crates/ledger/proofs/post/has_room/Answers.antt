@@ -1,4 +1,3 @@
--- `has_room`: the loop's invariant is the number of rows that there are with the entries so far. Assumes nothing.
 use mathlib.Core.Path.{◌∙◌}
 use native.Mathlib.Omega.{arith}
 use Rattle.ledger.proofs.LoopSteps as steps

@@ -1,3 +1,4 @@
+-- `has_room`: the loop's invariant is the number of rows that there are with the entries so far. Assumes nothing.
 use Prim.Native.Nat.{◌-◌}
 use Rattle.ledger.proofs.LoopSteps as steps
 use Rattle.ledger.proofs.post.has_room.Given as goal

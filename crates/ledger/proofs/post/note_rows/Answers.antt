@@ -1,4 +1,3 @@
--- `note_rows`: the loop's invariant is that what is noted is so, and that the keys from the place on are not below the report's first. Assumes nothing.
 use Rattle.ledger.proofs.KnownLaws.{note_none}
 use Rattle.ledger.proofs.post.note_rows.Goals as goal
 

@@ -1,3 +1,4 @@
+-- `note_rows`: the loop's invariant is that what is noted is so, and that the keys from the place on are not below the report's first. Assumes nothing.
 use Prim.Native.Nat.{◌-◌}
 use Rattle.ledger.proofs.KnownLaws.{NoteLoop}
 use Rattle.ledger.proofs.post.note_rows.Given as goal

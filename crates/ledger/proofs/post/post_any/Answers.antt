@@ -5,7 +5,7 @@ use Rattle.ledger.proofs.PostSteps.{no_room_lem, life-passes, all-added}
 use Rattle.ledger.proofs.post.post_any.Goals as goal
 
 pub returns-then-not-has_room : goal.returns-then-not-has_room
-returns-then-not-has_room c = no_room_lem _ c.requires.0 _ _ c.has_room.ensures (c.if-not-has_room.true)
+returns-then-not-has_room c = no_room_lem _ c.requires.0 _ _ c.has_room.ensures c.if-not-has_room.true
 
 pub returns-then-add_all : goal.returns-then-add_all
 returns-then-add_all c =

@@ -1,4 +1,3 @@
--- `post_known`: the loop's invariant is that of `add_all`, and the rows are in their places. Assumes nothing.
 use mathlib.Core.Bool.{true≢false}
 use native.Mathlib.Omega.{arith}
 use Rattle.ledger.proofs.KnownLaws.{noted-none, known-adds, known-none, known-fits, known_more}

@@ -1,3 +1,4 @@
+-- `post_known`: the loop's invariant is that of `add_all`, and the rows are in their places. Assumes nothing.
 use Prim.Native.Nat.{◌-◌}
 use Rattle.ledger.proofs.KnownLaws.{KnownLoop}
 use Rattle.ledger.proofs.post.post_known.Given as goal

@@ -1,4 +1,3 @@
--- `step_to`: the loop's invariant is that the record asked for is so many steps from the cursor, the measure how many. Assumes nothing.
 use mathlib.Core.Path.{sym, ◌∙◌}
 use Rattle.ledger.proofs.ReportLaws.{at_last, at-stopped, at_next}
 use Rattle.ledger.proofs.post.step_to.Goals as goal

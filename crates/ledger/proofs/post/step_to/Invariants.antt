@@ -1,3 +1,4 @@
+-- `step_to`: the loop's invariant is that the record asked for is so many steps from the cursor, the measure how many. Assumes nothing.
 use mathlib.Core.Path.{◌≡◌}
 use Rattle.ledger.specs.Reports.{step_at}
 use Rattle.ledger.proofs.post.step_to.Given as goal

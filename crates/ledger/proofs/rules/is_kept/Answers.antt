@@ -1,4 +1,3 @@
--- `is_kept`: the loop's invariant is that the places passed keep the rules, the measure how many are left. Assumes nothing.
 use mathlib.Core.Path.{◌≡◌, refl, sym, ◌∙◌}
 use native.Mathlib.Omega.{arith}
 use Rattle.ledger.specs.Ledgers.{all_below}
@@ -16,7 +15,7 @@ loop-i-init c = (search rules, refl)
 pub returns-then-not-is_place_kept : goal.returns-then-not-is_place_kept
 returns-then-not-is_place_kept c =
     rules_fail _ (omega (arith, c.count_of.ensures, c.if-count_of-gt-ROWS.false)) c.loop-i.i c.loop-i-test.true _ c.is_place_kept.ensures
-    (c.if-not-is_place_kept.true)
+    c.if-not-is_place_kept.true
 
 pub loop-i-preserved : goal.loop-i-preserved
 loop-i-preserved c = (

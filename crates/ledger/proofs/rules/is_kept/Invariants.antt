@@ -1,3 +1,4 @@
+-- `is_kept`: the loop's invariant is that the places passed keep the rules, the measure how many are left. Assumes nothing.
 use mathlib.Core.Path.{◌≡◌}
 use mathlib.Core.Bool.{true}
 use Prim.Native.Nat.{◌-◌, ◌≤◌}

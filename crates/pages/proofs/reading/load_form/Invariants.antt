@@ -1,3 +1,4 @@
+-- `load_form`: the loop's invariant is that the cells hold the rows passed, the measure how many are left. Assumes nothing.
 use Prim.Native.Nat.{◌-◌}
 use Rattle.pages.specs.Pages.{tables_of}
 use Rattle.pages.proofs.PageSteps as steps

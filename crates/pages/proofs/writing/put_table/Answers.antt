@@ -1,4 +1,3 @@
--- `put_table`: the loop's invariant is that the rows passed are laid, the measure how many are left. Assumes nothing.
 use native.Mathlib.Omega.{arith}
 use Rattle.pages.proofs.PutSteps as steps
 use borrow.Author.Rules.{rules}

@@ -1,3 +1,4 @@
+-- `put_table`: the loop's invariant is that the rows passed are laid, the measure how many are left. Assumes nothing.
 use Prim.Native.Nat.{◌-◌}
 use Rattle.pages.proofs.PutSteps as steps
 use Rattle.pages.proofs.writing.put_table.Given as goal

@@ -1,4 +1,3 @@
--- `run_pieces`: what waits lies in the octets, and the ledger keeps the rules. Assumes nothing.
 use Rattle.std.proofs.Common.{arith}
 use Rattle.vectors.proofs.PieceSteps as steps
 use Rattle.vectors.proofs.feeds.run_pieces.Goals as goal

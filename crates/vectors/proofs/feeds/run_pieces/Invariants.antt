@@ -1,3 +1,4 @@
+-- `run_pieces`: what waits lies in the octets, and the ledger keeps the rules. Assumes nothing.
 use Rattle.std.proofs.Common.{◌-◌, length}
 use Rattle.vectors.proofs.PieceSteps as steps
 use Rattle.vectors.proofs.feeds.run_pieces.Given as goal

@@ -1,3 +1,4 @@
+-- `ledger_of` writes below 256 only. Assumes nothing.
 use Rattle.std.proofs.Common.{◌≤◌, ◌-◌}
 use Rattle.vectors.proofs.ledgers.ledger_of.Given as goal
 

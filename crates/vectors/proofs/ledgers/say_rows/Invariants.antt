@@ -1,3 +1,4 @@
+-- `say_rows` looks below 256 only; the text keeps its length. Assumes nothing.
 use Rattle.std.proofs.Common.{◌≡◌, ◌≤◌, ◌-◌, length}
 use Rattle.vectors.proofs.ledgers.say_rows.Given as goal
 

@@ -1,3 +1,4 @@
+-- `again` reads below the slice's length only. The loop's invariant: the slice keeps its length. Assumes nothing.
 use Rattle.std.proofs.Common.{◌≡◌, ◌-◌, length}
 use Rattle.vectors.proofs.store.again.Given as goal
 

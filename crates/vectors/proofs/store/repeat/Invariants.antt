@@ -1,3 +1,4 @@
+-- `repeat` ends with its turns. The loop's invariant: the slice keeps its length. Assumes nothing.
 use Rattle.std.proofs.Common.{◌≡◌, length}
 use Rattle.vectors.proofs.store.repeat.Given as goal
 

@@ -1,3 +1,4 @@
+-- `kept` reads below the slice's length only. Assumes nothing.
 use Rattle.std.proofs.Common.{◌≤◌, ◌-◌, length}
 use Rattle.vectors.proofs.written.kept.Given as goal
 

@@ -1,4 +1,3 @@
--- `keep` moves octet after octet to the front. Assumes nothing.
 use Rattle.std.proofs.Common.{refl, arith}
 use Rattle.wear.proofs.Moves as moves
 use Rattle.wear.proofs.input.keep.Goals as goal

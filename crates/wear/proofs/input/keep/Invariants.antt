@@ -1,3 +1,4 @@
+-- `keep` moves octet after octet to the front. Assumes nothing.
 use Rattle.std.proofs.Common.{◌-◌, ◌≤◌}
 use Rattle.wear.proofs.Moves.{Moved}
 use Rattle.wear.proofs.input.keep.Given as goal

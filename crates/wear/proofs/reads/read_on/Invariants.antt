@@ -1,3 +1,4 @@
+-- `read_on`: with each read that goes on an octet comes; the measure is how many reads may follow. Assumes nothing.
 use Rattle.std.proofs.Common.{◌≡◌, ◌≤◌, length}
 use Rattle.wear.proofs.ReadLaws.{Reaches}
 use Rattle.wear.proofs.reads.read_on.Given as goal

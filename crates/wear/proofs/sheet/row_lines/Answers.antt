@@ -1,5 +1,3 @@
--- `row_lines`: the loop's invariant is that the first i rows are put. It looks below the row count, and so below 256, only, where a key has 32 bits.
--- Assumes nothing.
 use Rattle.std.proofs.Common.{ap, arith, rules}
 use Rattle.ledger.proofs.CellLaws.{kept-narrow}
 use Rattle.wear.proofs.SheetLaws as laws

@@ -1,3 +1,5 @@
+-- `row_lines`: the loop's invariant is that the first i rows are put. It looks below the row count, and so below 256, only, where a key has 32 bits.
+-- Assumes nothing.
 use Rattle.std.proofs.Common.{◌≡◌, ◌-◌, ◌≤◌, length}
 use Rattle.text.specs.Gathered.{gathered}
 use Rattle.wear.proofs.SheetLaws as laws

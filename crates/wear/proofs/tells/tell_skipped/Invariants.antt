@@ -1,3 +1,4 @@
+-- `tell_skipped`: the offset is within the octets at hand, and the measure is how many follow it. Assumes nothing.
 use Rattle.std.proofs.Common.{◌-◌, ◌≤◌, length}
 use Rattle.wear.proofs.tells.tell_skipped.Given as goal
 
