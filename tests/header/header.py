@@ -33,8 +33,8 @@ OF_DOORS = {'&[u8]': ['const uint8_t *', 'size_t'], '&mut [u8]': ['uint8_t *', '
 OF_EXAMPLE = {'*const u8': ['const uint8_t *'], '*mut u8': ['uint8_t *'], '*const u64': ['const uint64_t *'], '*mut u64': ['uint64_t *'],
               'usize': ['size_t'], 'u64': ['uint64_t'], 'u32': ['uint32_t']}
 
-# An arm of a match with the octets of a sentence, and no other arm between.
-ARM = re.compile(r'([\w:]+)\s*=>(?:(?!=>)[^"])*?\bb"([^"]*)"')
+# The octets of a sentence behind an arm of a match, or behind a test for a number, and no other arm between.
+ARM = re.compile(r'(?:([\w:]+|Err\(_\))\s*=>|\bif n == (\w+)\b)(?:(?!=>)[^"])*?\bb"([^"]*)"')
 
 differences = []
 
@@ -121,6 +121,17 @@ def constants_of(text):
     return {name: expression.strip() for name, _, expression in CONSTANT.findall(re.sub(r'//.*', '', text))}
 
 
+def cases_of(path, name):
+    """The cases of an enum, as their values are written; of one that has none written, nothing can be told."""
+    body = re.search(r'^pub enum %s \{\n(.*?)^\}' % name, re.sub(r'//.*', '', read(path) or ''), re.M | re.S)
+    return dict(re.findall(r'(\w+)(?:\s*=\s*([^,]+))?,', body.group(1))) if body else {}
+
+
+def in_capitals(case):
+    """A case's name as the header and the constants write it."""
+    return re.sub(r'(?<=[a-z0-9])(?=[A-Z])', '_', case).upper()
+
+
 def value_of(expression, constants):
     """The value of a sum of numerals, products and names; None where it is anything else."""
     def factor(word):
@@ -191,7 +202,7 @@ def hold_doors(values, enums):
         hold_all(values, [name for name in enums['record'] if name != 'WEAR_CELLS'], CELLS, sources[CELLS])
     else:
         differ('%s is not there, and so the cells of a record are held to nothing', CELLS)
-    names = ['WEAR_VERSION', 'WEAR_CELLS'] + enums['feed'] + enums['left off']
+    names = ['WEAR_VERSION', 'WEAR_ACCEPTED', 'WEAR_CELLS'] + enums['feed'] + enums['left off']
     for name in names:
         hold(values, name, sources, DOORS)
     print('%d names of wear.h held to %s' % (len(names), DOORS))
@@ -261,16 +272,16 @@ def hold_readme(sentences):
 
 
 def hold_words(sentences):
-    """The sentences that the programs print, each in its arm of a match: its number, or its name in refusal.rt."""
-    names, numbers = constants_of(read(REFUSALS)), set()
-    for pattern, sentence in ARM.findall(re.sub(r'^\s*//.*', '', read(WORDS) or '', flags=re.M)):
-        number = UNUSED[0] if pattern == '_' else value_of(pattern, names)
+    """The sentences that the programs print, each in its arm of a match by its name in refusal.rt, or behind a test for its number."""
+    names, numbers = cases_of(REFUSALS, 'Refusal'), set()
+    for pattern, tested, sentence in ARM.findall(re.sub(r'^\s*//.*', '', read(WORDS) or '', flags=re.M)):
+        number = UNUSED[0] if pattern in ('_', 'Err(_)') else value_of(pattern or tested, names)
         if number not in sentences:
-            differ('%s: what the arm %s stands for cannot be told', WORDS, pattern)
+            differ('%s: what the arm %s stands for cannot be told', WORDS, pattern or tested)
         else:
             numbers.add(number)
             hold_sentence(number, sentence, sentences, WORDS)
-    for number in sorted(set(range(1, 18)) - numbers):
+    for number in sorted({*range(18), UNUSED[0]} - numbers):
         differ('%s has no arm for refusal %d', WORDS, number)
     print('%d sentences held to %s' % (len(numbers), WORDS))
 
@@ -295,7 +306,9 @@ def hold_example(values, fresh):
 def judge(path):
     values, sentences, fresh = seen(path)
     enums = header_enums()
-    hold_all(values, enums['refusals'], REFUSALS, values_in(REFUSALS))
+    cases = cases_of(REFUSALS, 'Refusal')
+    refusals = {in_capitals(case): value_of(expression, cases) for case, expression in cases.items()}
+    hold_all(values, [name for name in enums['refusals'] if name != 'WEAR_ACCEPTED'], REFUSALS, refusals)
     hold_doors(values, enums)
     hold_all_functions()
     hold_page(values, fresh)

@@ -22,7 +22,7 @@ use Rattle.blocks.specs.Specification.{zeros, put_marks}
 use Rattle.blocks.specs.Records.{Rec, put_rec}
 use Rattle.blocks.specs.Headers.{header_of}
 use Rattle.blocks.specs.Blocks.{Block, wrong, all, with, block_from, block_of, put_recs, headed, put_block}
-use Rattle.blocks.specs.declared.header.Head.{Head}
+use Rattle.blocks.specs.Head.{Head}
 use Rattle.blocks.proofs.HeaderLaws.{header_cases, header-fits}
 use Rattle.blocks.proofs.GoodRecords.{good, all_good}
 use Rattle.blocks.proofs.Suffixes.{record_of, first, records, records-step, records-none}

@@ -21,12 +21,12 @@ use Rattle.blocks.specs.Typed.{typed_rec}
 use Rattle.blocks.specs.Steps.{items_from, take_by, step_by, step_of}
 use Rattle.blocks.specs.Meaning.{rec_of}
 use Rattle.blocks.specs.Boundaries.{Joined, Full, Stopped, Visited}
-use Rattle.blocks.specs.declared.header.Head.{Head}
-use Rattle.blocks.specs.declared.header.Head.TheVariants as head
+use Rattle.blocks.specs.Head.{Head}
+use Rattle.blocks.specs.Head as head
 use Rattle.blocks.specs.declared.record.Record.{Record}
 use Rattle.blocks.specs.declared.cursor.Cursor.{Cursor}
-use Rattle.blocks.specs.declared.cursor.Step.{Step}
-use Rattle.blocks.specs.declared.walk.Reading.{Reading}
+use Rattle.blocks.specs.Step.{Step}
+use Rattle.blocks.specs.Reading.{Reading}
 use Rattle.blocks.proofs.HeaderLaws.{header-good}
 use Rattle.blocks.proofs.BlockLaws.{category-cat}
 use Rattle.blocks.proofs.ReadSteps.{record_within, records-end, records-one}

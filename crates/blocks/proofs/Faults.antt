@@ -22,15 +22,15 @@ use Rattle.layouts.specs.Tables.{layout}
 use Rattle.layouts.specs.Categories.{Category, known}
 use Rattle.layouts.proofs.KindEnds.{sound, forms-sound, flagged, extensions, kind_end_lem}
 use Rattle.layouts.proofs.Windows.{run_trace}
-use Rattle.layouts.specs.declared.ends.End.{End}
-use Rattle.layouts.specs.declared.ends.End.TheVariants.{At, Refused}
+use Rattle.layouts.specs.End.{End}
+use Rattle.layouts.specs.End.{At, Refused}
 use Rattle.layouts.specs.declared.ends.Kind.{Kind}
 use Rattle.layouts.specs.declared.ends.Kind.TheVariants.{Spare, Fixed, Extended, Repeated, Explicit}
 use Rattle.layouts.specs.declared.form.Form.{Form}
 use Rattle.blocks.specs.Headers.{header_of}
 use Rattle.blocks.specs.Offsets.{specification_at}
 use Rattle.blocks.specs.Faults.{TooShort, Unknown, LenLow, FxSet, Passes, NoCount, PastLast, OutOfRange, Long, Cut}
-use Rattle.blocks.specs.declared.header.Head.{Head}
+use Rattle.blocks.specs.Head.{Head}
 use Rattle.blocks.proofs.HeaderLaws.{header_cases, Headed}
 use Rattle.blocks.proofs.MarksLaws.{spec-end}
 

@@ -13,7 +13,7 @@ use Rattle.octets.specs.Refusals.{too_short, unknown_category, len_too_small}
 use Rattle.octets.proofs.Cases.{choose}
 use Rattle.layouts.specs.Categories.{known}
 use Rattle.blocks.specs.Headers.{header_of, head_refused, head_good, listed_head, head_listed}
-use Rattle.blocks.specs.declared.header.Head.{Head}
+use Rattle.blocks.specs.Head.{Head}
 
 -- a block that may be read: its category, and LEN octets of it are there
 pub record Headed (s : List ℕ) (cat len : ℕ) : Type 0 where
@@ -101,6 +101,6 @@ header-listed s = go (ltb (length s) 3) (known (get_or s 0 0)) (ltb (number 2 s 
     go false true false true = refl
     go false true false false = refl
 
--- an answer, and its number and values
-pub header-told : (s : List ℕ) (r : Head) → r ≡ header_of s → (r ≡ header_of s) × (listed_head r ≡ head_listed s)
-header-told s r e = (e, ap listed_head e ∙ header-listed s)
+-- an answer, its number and values, and what else is told
+pub header-told : {C : Type 0} (s : List ℕ) (r : Head) → r ≡ header_of s → C → (r ≡ header_of s) × (listed_head r ≡ head_listed s) × C
+header-told s r e w = (e, ap listed_head e ∙ header-listed s, w)

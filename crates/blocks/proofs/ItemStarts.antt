@@ -1,7 +1,7 @@
 -- Where the items of a record start: each where those before it end. Assumes nothing.
 use mathlib.Core.Path.{◌≡◌, refl, sym, ◌∙◌, subst}
 use mathlib.Core.List.{List, [], ◌∷◌}
-use mathlib.Core.Bool.{Bool, true, false}
+use mathlib.Core.Bool.{Bool, true, false, false≢true}
 use Prim.Native.Nat.{ℕ, zero, suc, ◌<◌, ◌≤◌}
 use native.Mathlib.Omega.{arith}
 use lib.ListN.{length, get_or}
@@ -11,7 +11,7 @@ use Rattle.layouts.specs.Offsets.{run_at, item_at}
 use Rattle.layouts.specs.Layouts.{format}
 use Rattle.layouts.specs.Ends.{end_of}
 use Rattle.layouts.specs.Tables.{layout}
-use Rattle.layouts.specs.declared.ends.End.TheVariants.{At, Refused}
+use Rattle.layouts.specs.End.{At, Refused}
 use Rattle.layouts.specs.declared.form.Form.{Form}
 use Rattle.layouts.proofs.Parsed.{through}
 use Rattle.layouts.proofs.Alike.{item_alike_at}
@@ -60,6 +60,15 @@ module _ (s : List ℕ) (len : ℕ) where
   start-next [] at n = rw (none-start at n, none-start at (suc n))
   start-next (f ∷ fs) at zero = refl
   start-next (f ∷ fs) at (suc n) = start-next fs (stop_of at (run_at s len f at)) n
+
+  -- where the item of a marked field stops; past the last field there is none, and a spare one has none
+  pub stop-marked : (bs : List Bool) (fs : List Form) (n at : ℕ) → get_or bs n false ≡ true
+      → stop_of at (run_at s len (get_or (formats bs fs) n done) at) ≡ stop_of at (run_at s len (format (layout (get_or fs n Form.Spare))) at)
+  unfolding formats format run_at
+  stop-marked [] fs n at e = absurd (false≢true e)
+  stop-marked (b ∷ bs) [] n at e = refl
+  stop-marked (b ∷ bs) (f ∷ fs) zero at e = rw e
+  stop-marked (b ∷ bs) (f ∷ fs) (suc n) at e = stop-marked bs fs n at e
 
   -- item n is read where it starts, to where the next one starts
   abbrev There : List Format → ℕ → List Trace → ℕ → Type 0

@@ -34,3 +34,4 @@ pub mod TypedOctets
 pub mod TakenLaws
 pub mod SeenLaws
 pub mod SmallLaws
+pub mod Answered

@@ -16,10 +16,10 @@ use Rattle.blocks.specs.Blocks.{Block, wrong, all, block_of}
 use Rattle.blocks.specs.Offsets.{record_at}
 use Rattle.blocks.specs.Walks.{answer_of, read_of, listed_reading, block_listed, read_listed}
 use Rattle.blocks.specs.Steps.{taken_by, take_by, step_from, step_by, entry_from, entry_by, entry_group_of, entry_values, step_of, listed_step, step_listed, found_of, entry_of, entry_refused, counter_found, version_found, entry_found, listed_entry, entry_listed}
-use Rattle.blocks.specs.declared.header.Head.{Head}
-use Rattle.blocks.specs.declared.header.Head.TheVariants as head
+use Rattle.blocks.specs.Head.{Head}
+use Rattle.blocks.specs.Head as head
 use Rattle.blocks.specs.declared.record.Record.{Record}
-use Rattle.blocks.specs.declared.cursor.Found.{Found}
+use Rattle.blocks.specs.Found.{Found}
 
 -- Reading answers of the block's records.
 pub read-block : (s : List ℕ) → read_of s ≡ answer_of (number 2 s 1) (block_of s)

@@ -1,16 +1,18 @@
 -- The first marked field from a field on. Assumes nothing.
-use mathlib.Core.Path.{◌≡◌, refl, sym, ◌∙◌}
+use mathlib.Core.Path.{◌≡◌, refl, sym, ap, ◌∙◌}
 use mathlib.Core.Bool.{Bool, true, false}
 use mathlib.Core.List.{List, [], ◌∷◌}
 use Prim.Native.Nat.{ℕ, zero, suc, ◌+◌, ◌-◌, ◌/◌, ◌%◌, ◌^◌, ◌≤◌, ◌<◌}
-use native.Mathlib.Nat.{div-one, div-div-eq-div-mul, pow-succ', sub-zero, sub_self}
-use native.Mathlib.Numerals.{add-one}
+use native.Mathlib.Nat.{div-one, div-div-eq-div-mul, pow-succ', sub-zero, sub_self, pow-suc}
 use native.Mathlib.Omega.{arith}
-use borrow.Author.Tests.{eq-eqb, ne_eqb, eqb-true, eqb-false}
+use borrow.Author.Tests.{eqb-true, eqb-false}
+use lib.Count.{count_trailing_zeros, under, trailing_of_zero}
+use lib.Pow.{shr_lt}
 use lib.Dec.{eqb}
 use lib.ListN.{length, get_or, drop}
+use Rattle.octets.specs.Choice.{pick}
 use Rattle.octets.proofs.Cases.{test}
-use Rattle.blocks.specs.Marks.{flags_of, next_marked}
+use Rattle.blocks.specs.Marks.{flags_of, next_marked, next_from}
 
 -- the marks from a field on are those of the number shifted
 flags-drop : (n m k : ℕ) → k ≤ n → drop k (flags_of n m) ≡ flags_of (n - k) (m / 2 ^ k)
@@ -51,53 +53,50 @@ next-unmarked (false ∷ bs) f k l m =
     let e : k - f ≡ suc (k - suc f) = omega arith in
     rw e (next-unmarked bs (suc f) k (omega arith) m))
 
--- none is marked
-next-none : (n f : ℕ) → next_marked (flags_of n 0) f ≡ f + n
-unfolding flags_of next_marked
-next-none zero f = omega arith
-next-none (suc n) f = next-none n (suc f) ∙ omega arith
+-- it lies behind as many unmarked fields as the number has zeros below its first mark
+next-zeros : (n m f : ℕ) → next_marked (flags_of n m) f ≡ f + count_trailing_zeros n m
+unfolding flags_of next_marked count_trailing_zeros
+next-zeros zero m f = omega arith
+next-zeros (suc n) m f =
+    rw (next-zeros n (m / 2) (suc f)) (go (m % 2) (count_trailing_zeros n (m / 2)) (omega arith))
+  where
+    go : (d t : ℕ) → d < 2 → pick (eqb d 1) f (suc f + t) ≡ f + under d t
+    go zero t h = omega arith
+    go (suc zero) t h = omega arith
+    go (suc (suc d)) t h = absurd (omega arith)
 
-module _ (marks from : ℕ) where
-  abbrev wanted : ℕ
-  wanted = next_marked (drop (from - 1) (flags_of 32 marks)) from
+-- as many of each count of fields that has all marks, and fewer than it has
+zeros-same : (j k m : ℕ) → j ≤ k → m < 2 ^ j → (m ≡ 0 → ⊥)
+    → (count_trailing_zeros j m ≡ count_trailing_zeros k m) × (count_trailing_zeros j m < j)
+unfolding count_trailing_zeros
+zeros-same zero k m h l some = absurd (some (omega arith))
+zeros-same (suc j) zero m h l some = absurd (omega arith)
+zeros-same (suc j) (suc k) m h l some =
+    go (λ e. zeros-same j k (m / 2) (omega arith) (omega (arith, pow-suc 2 j)) (λ z. some (omega arith))) (m % 2) refl
+  where
+    go : (0 ≡ m % 2 → (count_trailing_zeros j (m / 2) ≡ count_trailing_zeros k (m / 2)) × (count_trailing_zeros j (m / 2) < j))
+        → (d : ℕ) → d ≡ m % 2
+        → (under d (count_trailing_zeros j (m / 2)) ≡ under d (count_trailing_zeros k (m / 2))) × (under d (count_trailing_zeros j (m / 2)) < suc j)
+    go rest zero e = let w = rest e in (ap suc w.0, omega (arith, w.1))
+    go rest (suc d) e = (refl, omega arith)
 
-  abbrev Found : ℕ → Type 0
-  Found r = (r ≡ wanted) × (from ≤ r) × (r ≤ 33)
+module _ (marks from : ℕ) (low : 1 ≤ from) (high : from ≤ 33) where
+  -- the marks from a field on, and the fields that they are of
+  abbrev left : ℕ
+  left = marks / 2 ^ (from - 1)
 
-  -- no field before f is marked, and the marks from f on are the number left
-  pub record Left (left f : ℕ) : Type 0 where
-    pub before : from ≤ f
-    pub within : f ≤ 33
-    pub same : wanted ≡ next_marked (flags_of (33 - f) left) f
+  abbrev fields : ℕ
+  fields = 32 - (from - 1)
 
-  pub left-first : 1 ≤ from → from ≤ 33 → Left (marks / 2 ^ (from - 1)) from
-  left-first low high =
-      let n : 32 - (from - 1) ≡ 33 - from = omega arith in
-      record { before = omega arith; within = high; same = rw (flags-drop 32 marks (from - 1) (omega arith), n) }
+  counted : next_from marks from ≡ from + count_trailing_zeros fields left
+  counted = rw (flags-drop 32 marks (from - 1) (omega arith)) (next-zeros fields left from)
 
-  pub left-none : (left : ℕ) → Left left from → left ≡ 0 → Found 33
-  left-none left w z =
-      let e : from + (33 - from) ≡ 33 = omega (arith, w.within) in
-      (sym (w.same ∙ rw z (next-none (33 - from) from ∙ e)), w.within, omega arith)
+  pub none-left : left ≡ 0 → next_from marks from ≡ 33
+  none-left z = counted ∙ rw (z, trailing_of_zero) (omega arith)
 
-  pub left_end : (left f : ℕ) → Left left f → 33 ≤ f → (r : ℕ) → r ≡ f → Found r
-  unfolding flags_of next_marked
-  left_end left f w h r is =
-      let e : 33 - f ≡ 0 = omega arith in
-      rw is (sym (w.same ∙ rw e), w.before, w.within)
-
-  module _ (left f : ℕ) (w : Left left f) (more : f < 33) where
-    one : 33 - f ≡ suc (33 - (f + 1))
-    one = omega arith
-
-    pub left-marked : left % 2 ≡ 1 → Found f
-    unfolding flags_of next_marked
-    left-marked m = (sym (w.same ∙ rw (one, eq-eqb (left % 2) 1 m)), w.before, w.within)
-
-    pub left-more : (left % 2 ≡ 1 → ⊥) → Left (left / 2) (f + 1)
-    unfolding flags_of next_marked
-    left-more m = record {
-      before = omega (arith, w.before);
-      within = omega arith;
-      same = w.same ∙ rw (one, ne_eqb (left % 2) 1 m, ← add-one f);
-    }
+  pub some-left : marks < 2 ^ 32 → (left ≡ 0 → ⊥)
+      → let f = from + count_trailing_zeros 64 left in (f ≡ next_from marks from) × (from ≤ f) × (f ≤ 32)
+  some-left small some =
+      let all : fields + (from - 1) ≡ 32 = omega arith in
+      let w = zeros-same fields 64 left (omega arith) (shr_lt fields (from - 1) (rw all small)) some in
+      (ap (λ (z : ℕ). from + z) (sym w.0) ∙ sym counted, omega arith, omega (arith, w.0, w.1))

@@ -1,12 +1,13 @@
 -- A record has the items that it must have: its category's mandatory ones, and field by field what the rule of its type asks. Assumes nothing.
-use mathlib.Core.Path.{◌≡◌, refl, sym, ap, ◌∙◌, subst}
-use mathlib.Core.Bool.{Bool, true, false, not, false≢true, not-not}
+use mathlib.Core.Path.{◌≡◌, refl, sym, ap, ◌∙◌}
+use mathlib.Core.Bool.{Bool, true, false, false≢true}
 use mathlib.Core.List.{List, [], ◌∷◌}
-use Prim.Native.Nat.{ℕ, ◌+◌, ◌-◌, ◌≤◌, ◌<◌}
+use Prim.Native.Nat.{ℕ, zero, suc, ◌+◌, ◌-◌, ◌≤◌}
 use native.Mathlib.Omega.{arith}
-use borrow.Author.Tests.{eqb-true, eqb-false}
-use lib.Dec.{eqb}
 use lib.ListN.{length, get_or}
+use Rattle.std.specs.List.{list_all, range_with_len}
+use Rattle.std.proofs.lemmas.List.Folds.{list_all_at}
+use Rattle.std.proofs.lemmas.List.FromFn.{length-range_with_len, get_or-range_with_len}
 use Rattle.octets.proofs.Cases.{test}
 use Rattle.layouts.specs.Categories.{category, field_marks}
 use Rattle.layouts.specs.Presence.{FieldNeed, needs23, types65, needs65, needs242, needs_of, need_at, rule_at, mandatory, met, meets}
@@ -42,36 +43,33 @@ module _ (n t m : ℕ) where
   all = meets (needs_of n) t (flags_of 32 m)
 
   -- a mandatory item is missing
-  pub lacks_one : {k : ℕ} → k ≡ field_marks (mandatory (needs_of n)) → {x : Bool} → x ≡ has_all 32 k m → not x ≡ true → false ≡ all
+  pub lacks_one : {k : ℕ} → k ≡ field_marks (mandatory (needs_of n)) → {x : Bool} → x ≡ has_all 32 k m → x ≡ false → x ≡ all
   lacks_one is tested h =
-      test all (λ e. absurd (false≢true (sym (ap not (tested ∙ ap (λ (k : ℕ). has_all 32 k m) is ∙ has-mandatory t m n e)) ∙ h))) sym
+      h ∙ test all (λ e. absurd (false≢true (sym h ∙ tested ∙ ap (λ (k : ℕ). has_all 32 k m) is ∙ has-mandatory t m n e))) sym
 
-  abbrev MetIn : ℕ → Type 0
-  MetIn = MetAt t (flags_of 32 m) (needs_of n)
+  -- a field is as its rule asks
+  abbrev pub met_at_field : ℕ → Bool
+  met_at_field f = met (need_at (needs_of n) t f) (marked m f)
 
-  -- the fields before f are as the rules ask
-  pub record MetBefore (f : ℕ) : Type 0 where
-    pub from : 1 ≤ f
-    pub all-before : (g : ℕ) → 1 ≤ g → g < f → MetIn g
+  met-same : (f : ℕ) → 1 ≤ f → met_at_field f ≡ met (need_at (needs_of n) t f) (get_or (flags_of 32 m) (f - 1) false)
+  met-same f l = ap (met (need_at (needs_of n) t f)) (marked-at m f l)
 
-  -- what the code tests of a field
-  module _ (f : ℕ) (l : 1 ≤ f) {x : Bool} (tested : x ≡ met (need_at (needs_of n) t f) (marked m f)) where
-    test-is : x ≡ met (need_at (needs_of n) t f) (get_or (flags_of 32 m) (f - 1) false)
-    test-is = tested ∙ ap (met (need_at (needs_of n) t f)) (marked-at m f l)
+  -- where all are, so are the k fields from a on
+  each : (a k : ℕ) → all ≡ true → 1 ≤ a → list_all met_at_field (range_with_len a k) ≡ true
+  each a zero h l = refl
+  each a (suc k) h l = rw (met-same a l ∙ met_at t (flags_of 32 m) (needs_of n) a h, each (a + 1) k h (omega arith))
 
-    pub unmet : not x ≡ true → false ≡ all
-    unmet h = test all (λ e. absurd (false≢true (sym (ap not (test-is ∙ met_at t (flags_of 32 m) (needs_of n) f e)) ∙ h))) sym
-
-    pub met-more : not x ≡ false → MetBefore f → MetBefore (f + 1)
-    met-more h w = record {
-      from = omega arith;
-      all-before = λ g a b. test (eqb g f) (λ e. subst MetIn (sym (eqb-true g f e)) (sym test-is ∙ sym (not-not x) ∙ ap not h))
-          (λ e. w.all-before g a (omega (arith, eqb-false g f e)));
-    }
-
-  pub met-none : MetBefore 1
-  met-none = record { from = omega arith; all-before = λ g a b. absurd (omega arith) }
+  -- and each of k fields is, where all of them are
+  one : (k f : ℕ) → list_all met_at_field (range_with_len 1 k) ≡ true → 1 ≤ f → f ≤ k → met_at_field f ≡ true
+  one k f h l u =
+      let here : 1 + (f - 1) ≡ f = omega arith in
+      let at : get_or (range_with_len 1 k) (f - 1) 0 ≡ f = get_or-range_with_len 1 k (f - 1) 0 (omega arith) ∙ here in
+      test (met_at_field f) (λ e. e) (λ e. absurd (false≢true
+      (sym (list_all_at met_at_field (range_with_len 1 k) (f - 1) 0 (rw length-range_with_len (omega arith)) (rw at e)) ∙ h)))
 
   -- all fields of the category
-  pub met_all : (f : ℕ) → length (category n).fields < f → MetBefore f → true ≡ all
-  met_all f l w = sym (all-met t (flags_of 32 m) (length (category n).fields) (needs_of n) (needs_apart n) (λ g a b. w.all-before g a (omega arith)))
+  pub met_all : (k : ℕ) → k ≡ length (category n).fields → list_all met_at_field (range_with_len 1 k) ≡ all
+  met_all k is =
+      test (list_all met_at_field (range_with_len 1 k))
+      (λ h. h ∙ sym (all-met t (flags_of 32 m) k (needs_of n) (rw is (needs_apart n)) (λ f l u. sym (met-same f l) ∙ one k f h l u)))
+      (λ h. h ∙ test all (λ e. absurd (false≢true (sym h ∙ each 1 k e (omega arith)))) sym)

@@ -18,10 +18,10 @@ use Rattle.blocks.specs.Records.{Rec, layout_of, specification_refusal, present}
 use Rattle.blocks.specs.Blocks.{Block, wrong, all, with, first_at, records_at}
 use Rattle.blocks.specs.Offsets.{specification_at, items_at, record_at}
 use Rattle.blocks.specs.Walks.{onward, run_of, answer_of}
-use Rattle.blocks.specs.declared.walk.Walked.{Walked}
-use Rattle.blocks.specs.declared.walk.Walked.TheVariants as walked
-use Rattle.blocks.specs.declared.walk.Reading.{Reading}
-use Rattle.blocks.specs.declared.walk.Reading.TheVariants as reading
+use Rattle.blocks.specs.Walked.{Walked}
+use Rattle.blocks.specs.Walked as walked
+use Rattle.blocks.specs.Reading.{Reading}
+use Rattle.blocks.specs.Reading as reading
 use Rattle.blocks.proofs.MarksLaws.{specification-marked}
 use Rattle.blocks.proofs.WalkSteps.{items-within, run_none, run-one, run_end}
 

@@ -1,6 +1,6 @@
 -- The walk over a record's fields: where it stands, and what it has noted of the items that it passed. Assumes nothing.
 use mathlib.Core.Path.{◌≡◌, refl, sym, ap, ◌∙◌}
-use mathlib.Core.Bool.{Bool, true, false, ◌&&◌, false≢true}
+use mathlib.Core.Bool.{Bool, true, false, ◌&&◌, false≢true, true≢false}
 use mathlib.Core.List.{List}
 use Prim.Native.Nat.{ℕ, zero, suc, ◌+◌, ◌-◌, ◌<◌, ◌≤◌}
 use native.Mathlib.Nat.{add-zero}
@@ -18,28 +18,33 @@ use Rattle.layouts.specs.Categories.{Category, form_at, field_at}
 use Rattle.layouts.specs.declared.category.Field.{Field}
 use Rattle.layouts.specs.declared.form.Form.{Form}
 use Rattle.blocks.specs.Forms.{form_number}
-use Rattle.blocks.specs.Marks.{flags_of, marked, next_marked}
+use Rattle.blocks.specs.Marks.{flags_of, marked, next_marked, next_from}
 use Rattle.blocks.specs.Records.{formats}
 use Rattle.blocks.specs.Typed.{field_for, stop_of, start_in}
 use Rattle.blocks.proofs.NextLaws.{next-within, next-marked, next-unmarked}
 use Rattle.blocks.proofs.FormLaws.{same_form_number, form_number_few, field-form, field-few, Forms, field-owned}
-use Rattle.blocks.proofs.ItemStarts.{formats-at, first-start, start-next}
+use Rattle.blocks.proofs.ItemStarts.{formats-at, first-start, start-next, stop-marked}
 
 -- the next marked field: none before it is marked, and it is, where it is a field
-module _ (marks from f : ℕ) (low : 1 ≤ from) (high : from ≤ 33) (is : f ≡ next_marked (drop (from - 1) (flags_of 32 marks)) from) where
-  mark-at : (k : ℕ) → from ≤ k → marked marks k ≡ get_or (drop (from - 1) (flags_of 32 marks)) (k - from) false
+module _ (marks from f : ℕ) (low : 1 ≤ from) (is : f ≡ next_from marks from) where
+  abbrev bits : List Bool
+  bits = drop (from - 1) (flags_of 32 marks)
+
+  up : from ≤ f
+  up = omega (arith, is, (next-within bits from).0)
+
+  mark-at : (k : ℕ) → from ≤ k → marked marks k ≡ get_or bits (k - from) false
   mark-at zero l = absurd (omega arith)
   mark-at (suc k) l = let e : from - 1 + (suc k - from) ≡ k = omega arith in sym (rw (get_or-drop, e))
 
   next-free : (k : ℕ) → from ≤ k → k < f → marked marks k ≡ false
-  next-free k l m = mark-at k l ∙ next-unmarked (drop (from - 1) (flags_of 32 marks)) from k l (omega arith)
+  next-free k l m = mark-at k l ∙ next-unmarked bits from k l (omega arith)
 
   next-mark : f ≤ 32 → marked marks f ≡ true
   unfolding flags_of
   next-mark l =
-      let bs = drop (from - 1) (flags_of 32 marks) in
-      let long : length bs ≡ 33 - from = simp length-drop (omega arith) in
-      rw is (mark-at (next_marked bs from) (next-within bs from).0 ∙ next-marked bs from (omega arith))
+      let long : length bits ≡ 33 - from = simp length-drop (omega arith) in
+      rw is (mark-at (next_marked bits from) (next-within bits from).0 ∙ next-marked bits from (omega (arith, up)))
 
 module _ (s : List ℕ) (len : ℕ) (c : Category) (marks at : ℕ) where
   -- where the item of field n + 1 starts
@@ -58,7 +63,6 @@ module _ (s : List ℕ) (len : ℕ) (c : Category) (marks at : ℕ) where
     pub inside : p ≤ len
     pub notes : (g : Form) → is_unused (layout g) ≡ false
         → get_or starts (form_number g) 0 ≡ placed (field_for c.fields g) (ltb (field_for c.fields g) f && marked marks (field_for c.fields g))
-    pub within : (n : ℕ) → get_or starts n 0 ≤ length s
 
   -- before field 1
   pub filled_none : at ≤ len → Filled (replicate 17 (length s)) at 1
@@ -68,9 +72,6 @@ module _ (s : List ℕ) (len : ℕ) (c : Category) (marks at : ℕ) where
     here = sym (first-start s len (formats (flags_of 32 marks) c.fields) at);
     inside = h;
     notes = λ g u. get_or-replicate 17 (form_number g) (length s) 0 (form_number_few g) ∙ go (field_for c.fields g);
-    within = λ n. test (ltb n 17)
-        (λ t. rw (get_or-replicate 17 n (length s) 0 (ltb-true n 17 t)) (omega arith))
-        (λ t. rw (get_or-eq_default (replicate 17 (length s)) 0 {n = n} (ltb-false n 17 t)) (omega arith));
   }
     where
       go : (k : ℕ) → length s ≡ placed k (ltb k 1 && marked marks k)
@@ -91,19 +92,22 @@ module _ (s : List ℕ) (len : ℕ) (c : Category) (marks at : ℕ) where
       rw e (start-unmarked (n + m) (h (suc (n + m)) (omega arith) (omega arith)) ∙ start-same n m (λ k a b. h k a (omega arith)))
 
   -- past the item of a field that is marked
-  start-marked : (f p : ℕ) → 1 ≤ f → f ≤ length c.fields → marked marks f ≡ true → p ≡ start (f - 1)
-      → start f ≡ stop_of p (run_at s len (format (layout (form_at c f))) p)
-  start-marked zero p low more e h = absurd (omega arith)
-  start-marked (suc n) p low more e h =
+  start-marked : (f p : ℕ) → 1 ≤ f → marked marks f ≡ true → p ≡ start (f - 1) → start f ≡ stop_of p (run_at s len (format (layout (form_at c f))) p)
+  start-marked zero p low e h = absurd (omega arith)
+  start-marked (suc n) p low e h =
       let d : suc n - 1 ≡ n = omega arith in
       start-next s len (formats (flags_of 32 marks) c.fields) at n
-      ∙ rw (formats-at (flags_of 32 marks) c.fields n (λ y. omega arith), e, h, d)
+      ∙ rw (h, d) (stop-marked s len (flags_of 32 marks) c.fields n (start n) e)
 
-  -- a form of items whose field this is
-  own-field : Forms c → (f : ℕ) → 1 ≤ f → f ≤ length c.fields → is_unused (layout (form_at c f)) ≡ false → field_for c.fields (form_at c f) ≡ f
-  own-field w zero low more u = absurd (omega arith)
-  own-field w (suc n) low more u =
-      eqb-true (field_for c.fields (form_at c (suc n))) (suc n) (rw u at (field-owned c w n (omega arith)))
+  -- a form of items whose field this is; past the last field there is none
+  own-field : Forms c → (f : ℕ) → 1 ≤ f → is_unused (layout (form_at c f)) ≡ false → field_for c.fields (form_at c f) ≡ f
+  own-field w zero low u = absurd (omega arith)
+  own-field w (suc n) low u =
+      test (ltb n (length c.fields))
+      (λ t. eqb-true (field_for c.fields (form_at c (suc n))) (suc n) (rw u at (field-owned c w n (ltb-true n (length c.fields) t))))
+      (λ t.
+      let none : form_at c (suc n) ≡ Form.Spare = get_or-eq_default c.fields Form.Spare {n = n} (ltb-false n (length c.fields) t) in
+      absurd (true≢false (rw none at u)))
 
   field-other : (f : ℕ) (g : Form) → 1 ≤ f → field_for c.fields g ≡ f → form_at c f ≡ g
   field-other zero g low e = absurd (omega arith)
@@ -115,29 +119,30 @@ module _ (s : List ℕ) (len : ℕ) (c : Category) (marks at : ℕ) where
       test (ltb k f) (λ t. t ∙ sym (lt-ltb k (f + 1) (omega (arith, ltb-true k f t))))
       (λ t. t ∙ sym (le-ltb k (f + 1) (omega (arith, ltb-false k f t))))
 
-  module _ (starts : List ℕ) (p f : ℕ) (w : Filled starts p f) where
-    -- past fields that are not marked
-    pub filled_skipped : (g : ℕ) → f ≤ g → ((k : ℕ) → f ≤ k → k < g → marked marks k ≡ false) → Filled starts p g
-    filled_skipped g le none =
-        let low = w.low in
-        let to : f - 1 + (g - f) ≡ g - 1 = omega arith in
-        record {
-          low = omega arith;
-          size = w.size;
-          here = w.here ∙ sym (rw to at (start-same (f - 1) (g - f) (λ k a b. none k (omega arith) (omega arith))));
-          inside = w.inside;
-          notes = λ x u.
-              let k = field_for c.fields x in
-              w.notes x u ∙ test (ltb k f)
-              (λ a. rw (a, lt-ltb k g (omega (arith, ltb-true k f a))))
-              (λ a. test (ltb k g)
-              (λ b. rw (a, b, none k (ltb-false k f a) (ltb-true k g b)))
-              (λ b. rw (a, b)));
-          within = w.within;
-        }
+  -- past fields that are not marked, to the next that is, or behind the last
+  pub filled_next : (starts : List ℕ) (p f g : ℕ) → Filled starts p f → g ≡ next_from marks f → Filled starts p g
+  filled_next starts p f g w is =
+      let low = w.low in
+      let le = up marks f g low is in
+      let none = next-free marks f g low is in
+      let to : f - 1 + (g - f) ≡ g - 1 = omega arith in
+      record {
+        low = omega arith;
+        size = w.size;
+        here = w.here ∙ sym (rw to at (start-same (f - 1) (g - f) (λ k a b. none k (omega arith) (omega arith))));
+        inside = w.inside;
+        notes = λ x u.
+            let k = field_for c.fields x in
+            w.notes x u ∙ test (ltb k f)
+            (λ a. rw (a, lt-ltb k g (omega (arith, ltb-true k f a))))
+            (λ a. test (ltb k g)
+            (λ b. rw (a, b, none k (ltb-false k f a) (ltb-true k g b)))
+            (λ b. rw (a, b)));
+      }
 
+  module _ (starts : List ℕ) (p f : ℕ) (w : Filled starts p f) where
     -- past the item of a field that is marked
-    module _ (more : f ≤ length c.fields) (own : Forms c) (e : marked marks f ≡ true) (room : len ≤ length s) where
+    module _ (own : Forms c) (e : marked marks f ≡ true) where
       abbrev form : Form
       form = form_at c f
 
@@ -154,7 +159,7 @@ module _ (s : List ℕ) (len : ℕ) (c : Category) (marks at : ℕ) where
           test (eqb (form_number g) (form_number form))
           (λ t.
           let is : g ≡ form = same_form_number g form (eqb-true (form_number g) (form_number form) t) in
-          let k : field_for c.fields form ≡ f = own-field own f w.low more (rw is at u) in
+          let k : field_for c.fields form ≡ f = own-field own f w.low (rw is at u) in
           rw (is, same, k, e, lt-ltb f (f + 1) (omega arith)) w.here)
           (λ t.
           let not : (field_for c.fields g ≡ f → ⊥)
@@ -168,28 +173,17 @@ module _ (s : List ℕ) (len : ℕ) (c : Category) (marks at : ℕ) where
           record {
             low = omega arith;
             size = rw length-set w.size;
-            here = is ∙ rw to (sym (start-marked f p w.low more e w.here));
+            here = is ∙ rw to (sym (start-marked f p w.low e w.here));
             inside = l;
             notes = noted;
-            within = λ n. test (eqb n (form_number form))
-                (λ t. rw (eqb-true n (form_number form) t, same) (let i = w.inside in omega arith))
-                (λ t. rw (other n (eqb-false n (form_number form) t)) (w.within n));
           }
 
-      pub filled_passed : (x : Field) → x ≡ field_at c f → (n : ℕ) → n ≡ form_number x.0
-          → (q : ℕ) → q ≡ stop_of p (run_at s len (format (layout x.0)) p) → q ≤ len → Filled (set starts n p) q (f + 1)
-      filled_passed x field n place q is l = rw (place, field) (filled-form q (rw field at is) l)
-
-  -- on to the next marked field
-  abbrev pub Walking : List ℕ → ℕ → ℕ → Type 0
-  Walking starts p f = Filled starts p f × (f ≤ 32 → marked marks f ≡ true)
-
-  pub walking_on : (starts : List ℕ) (p from : ℕ) → Filled starts p from → from ≤ 33
-      → (f : ℕ) → (f ≡ next_marked (drop (from - 1) (flags_of 32 marks)) from) × (from ≤ f) × (f ≤ 33) → Walking starts p f
-  walking_on starts p from w high f is = (
-    filled_skipped starts p from w f is.1 (next-free marks from f w.low high is.0),
-    next-mark marks from f w.low high is.0,
-  )
+  pub filled_passed : (starts : List ℕ) (p from f : ℕ) → Filled starts p from → Forms c → (f ≡ next_from marks from) × (from ≤ f) × (f ≤ 32)
+      → (x : Field) → x ≡ field_at c f → (n : ℕ) → n ≡ form_number x.0
+      → (q : ℕ) → q ≡ stop_of p (run_at s len (format (layout x.0)) p) → q ≤ len → Filled (set starts n p) q (f + 1)
+  filled_passed starts p from f w own next x field n place q is l =
+      rw (place, field)
+      (filled-form starts p f (filled_next starts p from f w next.0) own (next-mark marks from f w.low next.0 next.2) q (rw field at is) l)
 
   -- behind the last field
   module _ (starts : List ℕ) (p f : ℕ) (w : Filled starts p f) (over : length c.fields < f) where

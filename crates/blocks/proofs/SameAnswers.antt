@@ -19,12 +19,12 @@ use Rattle.blocks.specs.Walks.{read_of}
 use Rattle.blocks.specs.Typed.{start_in, typed_rec}
 use Rattle.blocks.specs.Steps.{items_from, taken_by, take_by, step_from, step_by, step_of, entry_values, entry_group_of, entry_from, found_of, entry_by, entry_of}
 use Rattle.blocks.specs.Alike.{IfGot, AllAlikeAt, RecordAlikeAt, RecordsAlikeAt}
-use Rattle.blocks.specs.declared.header.Head.{Head}
-use Rattle.blocks.specs.declared.header.Head.TheVariants as head
+use Rattle.blocks.specs.Head.{Head}
+use Rattle.blocks.specs.Head as head
 use Rattle.blocks.specs.declared.record.Record.{Record}
-use Rattle.blocks.specs.declared.cursor.Step.{Step}
-use Rattle.blocks.specs.declared.cursor.Step.TheVariants as step
-use Rattle.blocks.specs.declared.cursor.Found.{Found}
+use Rattle.blocks.specs.Step.{Step}
+use Rattle.blocks.specs.Step as step
+use Rattle.blocks.specs.Found.{Found}
 use Rattle.blocks.proofs.HeaderLaws.{header-good}
 use Rattle.blocks.proofs.BeforeLaws.{specification-before, record_before, records-before}
 use Rattle.blocks.proofs.AlikeLaws.{record_alike_at}

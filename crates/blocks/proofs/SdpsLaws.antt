@@ -30,10 +30,10 @@ use Rattle.blocks.specs.Offsets.{specification_at, items_at, record_at}
 use Rattle.blocks.specs.Typed.{has, start_in, typed_rec}
 use Rattle.blocks.specs.Steps.{items_from, step_of}
 use Rattle.blocks.specs.Toggle.{specification_octets, sdps_start, toggle_bit}
-use Rattle.blocks.specs.declared.header.Head.{Head}
+use Rattle.blocks.specs.Head.{Head}
 use Rattle.blocks.specs.declared.record.Record.{Record}
 use Rattle.blocks.specs.declared.cursor.Cursor.{Cursor}
-use Rattle.blocks.specs.declared.cursor.Step.{Step}
+use Rattle.blocks.specs.Step.{Step}
 use Rattle.blocks.proofs.MarksLaws.{Marked, specification-marked, flags_long}
 use Rattle.blocks.proofs.WalkSteps.{by-known}
 use Rattle.blocks.proofs.HeaderLaws.{header-good}

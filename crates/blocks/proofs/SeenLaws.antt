@@ -12,9 +12,9 @@ use Rattle.blocks.specs.Typed.{typed_by, typed_rec}
 use Rattle.blocks.specs.Steps.{items_from, take_of}
 use Rattle.blocks.specs.Statistics.{is_report, is_statistics, statistics_of, seen_of, listed_seen, seen_listed}
 use Rattle.blocks.specs.declared.cursor.Cursor.{Cursor}
-use Rattle.blocks.specs.declared.cursor.Step.{Step}
+use Rattle.blocks.specs.Step.{Step}
 use Rattle.blocks.specs.declared.record.Record.{Record}
-use Rattle.blocks.specs.declared.statistics.Seen.{Seen}
+use Rattle.blocks.specs.Seen.{Seen}
 use Rattle.blocks.specs.declared.statistics.Statistics.{Statistics}
 use Rattle.blocks.proofs.StepLaws.{take-took}
 

@@ -22,7 +22,7 @@ use Rattle.blocks.specs.Statistics.{report_entry}
 use Rattle.blocks.specs.Steps.{step_of}
 use Rattle.blocks.specs.Typed.{typed_rec}
 use Rattle.blocks.specs.declared.cursor.Cursor.{Cursor}
-use Rattle.blocks.specs.declared.cursor.Step.{Step}
+use Rattle.blocks.specs.Step.{Step}
 use Rattle.blocks.specs.declared.record.Record.{Record}
 use Rattle.blocks.proofs.HeaderLaws.{header-good}
 use Rattle.blocks.proofs.StepLaws.{step-took}

@@ -14,13 +14,13 @@ use Rattle.blocks.specs.Headers.{header_of}
 use Rattle.blocks.specs.Records.{Rec}
 use Rattle.blocks.specs.Offsets.{record_at}
 use Rattle.blocks.specs.Steps.{take_by, step_by, step_of, entry_group_of, entry_values, found_of, entry_in, entry_of}
-use Rattle.blocks.specs.declared.header.Head.{Head}
-use Rattle.blocks.specs.declared.header.Head.TheVariants as head
+use Rattle.blocks.specs.Head.{Head}
+use Rattle.blocks.specs.Head as head
 use Rattle.blocks.specs.declared.record.Record.{Record}
 use Rattle.blocks.specs.declared.cursor.Cursor.{Cursor}
-use Rattle.blocks.specs.declared.cursor.Step.{Step}
-use Rattle.blocks.specs.declared.cursor.Step.TheVariants as step
-use Rattle.blocks.specs.declared.cursor.Found.{Found}
+use Rattle.blocks.specs.Step.{Step}
+use Rattle.blocks.specs.Step as step
+use Rattle.blocks.specs.Found.{Found}
 use Rattle.blocks.proofs.StepLaws.{step-refused, step-low, step_past, entry-refused, entry-taken, entry-none}
 use Rattle.blocks.proofs.BoundaryLaws.{step-read}
 

@@ -21,14 +21,14 @@ use Rattle.blocks.specs.Offsets.{record_at}
 use Rattle.blocks.specs.Walks.{onward, run_of}
 use Rattle.blocks.specs.Typed.{typed_rec}
 use Rattle.blocks.specs.Steps.{items_from, taken_by, take_by, step_from, step_by, take_of, step_of, entry_group_of, entry_from, entry_by, found_of, entry_in, entry_of}
-use Rattle.blocks.specs.declared.header.Head.{Head}
-use Rattle.blocks.specs.declared.header.Head.TheVariants as head
+use Rattle.blocks.specs.Head.{Head}
+use Rattle.blocks.specs.Head as head
 use Rattle.blocks.specs.declared.record.Record.{Record}
-use Rattle.blocks.specs.declared.walk.Walked.{Walked}
+use Rattle.blocks.specs.Walked.{Walked}
 use Rattle.blocks.specs.declared.cursor.Cursor.{Cursor}
-use Rattle.blocks.specs.declared.cursor.Step.{Step}
-use Rattle.blocks.specs.declared.cursor.Step.TheVariants as step
-use Rattle.blocks.specs.declared.cursor.Found.{Found}
+use Rattle.blocks.specs.Step.{Step}
+use Rattle.blocks.specs.Step as step
+use Rattle.blocks.specs.Found.{Found}
 use Rattle.blocks.proofs.HeaderLaws.{header-good}
 use Rattle.blocks.proofs.WalkSteps.{run-one, run_none}
 use Rattle.blocks.proofs.ListedLaws.{step-made}
@@ -184,14 +184,6 @@ module _ (s : List ℕ) (cat at count k : ℕ) where
       → Found.Counter (counter_of (values counter.parts (number counter.wide s n))) ≡ entry_in s cat at count k
   unfolding entry_in
   entry-counter h e n is = rw (lt-leb count k h, ne_eqb cat 242 e, is)
-
--- an entry that the record has lies in the octets with the others
-module _ (cat at count k n : ℕ) (room : at + count * (entry_group_of cat).wide ≤ n) (has : k < count) where
-  pub version-room : cat ≡ 242 → at + k * 3 ≤ n
-  version-room e = omega (arith, rw (eq-eqb cat 242 e) at room)
-
-  pub counter-room : (cat ≡ 242 → ⊥) → at + k * 6 ≤ n
-  counter-room e = omega (arith, rw (ne_eqb cat 242 e) at room)
 
 -- the entries of a record that was taken lie in the octets
 pub entries-room : (s : List ℕ) (start : ℕ) (t : Record) (c : Cursor) → Octets s → Step.Taken t c ≡ step_of s start

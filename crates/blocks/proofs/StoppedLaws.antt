@@ -14,7 +14,7 @@ use Rattle.blocks.specs.Blocks.{wrong, records_at}
 use Rattle.blocks.specs.Offsets.{record_at}
 use Rattle.blocks.specs.Walks.{answer_of, read_of}
 use Rattle.blocks.specs.Boundaries.{Joined, Stopped}
-use Rattle.blocks.specs.declared.walk.Reading.{Reading}
+use Rattle.blocks.specs.Reading.{Reading}
 use Rattle.blocks.proofs.HeaderLaws.{header-good}
 use Rattle.blocks.proofs.ReadSteps.{records-one}
 use Rattle.blocks.proofs.BoundaryLaws.{read-good, read-refused, read-filled}

@@ -10,11 +10,11 @@ use Rattle.layouts.specs.Categories.{category}
 use Rattle.blocks.specs.Headers.{header_of}
 use Rattle.blocks.specs.Steps.{take_of, step_of}
 use Rattle.blocks.specs.Walks.{read_of}
-use Rattle.blocks.specs.declared.header.Head.{Head}
+use Rattle.blocks.specs.Head.{Head}
 use Rattle.blocks.specs.declared.record.Record.{Record}
 use Rattle.blocks.specs.declared.cursor.Cursor.{Cursor}
-use Rattle.blocks.specs.declared.cursor.Step.{Step}
-use Rattle.blocks.specs.declared.walk.Reading.{Reading}
+use Rattle.blocks.specs.Step.{Step}
+use Rattle.blocks.specs.Reading.{Reading}
 use Rattle.blocks.proofs.HeaderLaws.{header-good}
 use Rattle.blocks.proofs.ReadSteps.{record_within}
 use Rattle.blocks.proofs.StepLaws.{step-took, step-inside}

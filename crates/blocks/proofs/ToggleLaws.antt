@@ -32,11 +32,11 @@ use Rattle.blocks.specs.Steps.{items_from, step_of}
 use Rattle.blocks.specs.Toggle.{sdps_start, sdps_octet, other_sdps, with_toggle}
 use Rattle.blocks.specs.Alike.{RecordAlikeAt}
 use Rattle.blocks.specs.Boundaries.{Visited}
-use Rattle.blocks.specs.declared.header.Head.{Head}
+use Rattle.blocks.specs.Head.{Head}
 use Rattle.blocks.specs.declared.record.Record.{Record}
-use Rattle.blocks.specs.declared.walk.Reading.{Reading}
+use Rattle.blocks.specs.Reading.{Reading}
 use Rattle.blocks.specs.declared.cursor.Cursor.{Cursor}
-use Rattle.blocks.specs.declared.cursor.Step.{Step}
+use Rattle.blocks.specs.Step.{Step}
 use Rattle.blocks.proofs.AlikeLaws.{items_alike_at}
 use Rattle.blocks.proofs.MarksLaws.{specification-marked}
 use Rattle.blocks.proofs.WalkSteps.{item-run, items-within}

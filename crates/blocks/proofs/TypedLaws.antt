@@ -20,7 +20,7 @@ use Rattle.layouts.specs.Layouts.{octet, times, counted, format, kind_of}
 use Rattle.layouts.specs.Ends.{kind_end, end_of}
 use Rattle.layouts.specs.Tables.{counter, version, layout}
 use Rattle.layouts.specs.Categories.{Category, known, category, layout_at, entries_form}
-use Rattle.layouts.specs.declared.ends.End.TheVariants.{At}
+use Rattle.layouts.specs.End.{At}
 use Rattle.layouts.specs.declared.form.Form.{Form}
 use Rattle.layouts.proofs.KindEnds.{forms-sound, kind_end_lem, end-room}
 use Rattle.layouts.proofs.Windows.{run_trace, run-within}

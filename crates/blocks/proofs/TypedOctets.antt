@@ -2,7 +2,7 @@
 use mathlib.Core.Path.{◌≡◌, refl, sym, ap, ◌∙◌, subst}
 use mathlib.Core.Bool.{Bool, true, false}
 use mathlib.Core.List.{List}
-use Prim.Native.Nat.{ℕ, ◌-◌, ◌<◌, ◌≤◌}
+use Prim.Native.Nat.{ℕ, ◌-◌, ◌≤◌}
 use native.Mathlib.Omega.{arith}
 use lib.Dec.{eqb}
 use lib.ListN.{length, get_or}
@@ -23,6 +23,7 @@ use Rattle.blocks.specs.Offsets.{record_at}
 use Rattle.blocks.specs.Typed.{typed, typed_by, typed_rec}
 use Rattle.blocks.specs.Steps.{items_from}
 use Rattle.blocks.proofs.BlockLaws.{category-cat}
+use Rattle.blocks.proofs.WalkSteps.{Table, table}
 use Rattle.blocks.proofs.RecordStarts.{Filled, filled-notes}
 use Rattle.blocks.proofs.TypedLaws.{found, Taken, taken, typed-found}
 
@@ -54,15 +55,18 @@ typed-starts s cat marks a b h =
     )
 
 module _ (s : List ℕ) (len cat at : ℕ) (o : Octets s) (fit : len ≤ length s) (k : known cat ≡ true)
-    (starts : List ℕ) (p f : ℕ) (over : length (category cat).fields < f) where
+    (starts : List ℕ) (p : ℕ) where
+  few : Table cat (category cat)
+  few = table cat k
+
   -- the marks and the items of a record that was read
   made-read : (x : Rec) (q : ℕ) (w : Taken s len cat at o fit k x q)
-      → Filled s len (category cat) (marks_of (flags x.marks)) w.behind starts p f
+      → Filled s len (category cat) (marks_of (flags x.marks)) w.behind starts p 33
       → (p ≡ q) × (typed_by s cat (marks_of (flags x.marks)) starts ≡ typed_rec s len (category cat) x w.behind)
   made-read x q w i = (
-    i.here ∙ rw w.formats-are (w.end (f - 1) (omega arith)),
+    i.here ∙ rw w.formats-are (w.end 32 (omega (arith, few.long, few.few))),
     typed-starts s cat (marks_of (flags x.marks)) (λ g. get_or starts (form_number g) 0) (found s len cat at o fit k x w.behind)
-        (λ g u. filled-notes s len (category cat) _ _ starts p f i over g u ∙ rw w.formats-are)
+        (λ g u. filled-notes s len (category cat) _ _ starts p 33 i (omega (arith, few.long, few.few)) g u ∙ rw w.formats-are)
         ∙ ap
         (λ (n : ℕ). typed n (marks_of (flags x.marks))
         (λ g. trace_at (format (layout g)) s (found s len cat at o fit k x w.behind g)) (λ g e. place_at s (found s len cat at o fit k x w.behind g) e))
@@ -72,7 +76,7 @@ module _ (s : List ℕ) (len cat at : ℕ) (o : Octets s) (fit : len ≤ length 
 
   -- The walk has come past the last field: it stands where the record ends, and what it noted makes the typed record.
   pub made : (from marks : ℕ) → from ≡ items_from s len (category cat) at → marks ≡ marks_of (flags (groups_of (from - at) s at))
-      → Filled s len (category cat) marks from starts p f
+      → Filled s len (category cat) marks from starts p 33
       → (x : Rec) (q : ℕ) → record_at s len (category cat) at ≡ got x q
       → (p ≡ q) × (typed_by s cat marks starts ≡ typed_rec s len (category cat) x (items_from s len (category cat) at))
   made from marks is of i x q h =
@@ -81,5 +85,5 @@ module _ (s : List ℕ) (len cat at : ℕ) (o : Octets s) (fit : len ≤ length 
       let same : marks ≡ marks_of (flags x.marks) = of ∙ rw here (sym w.marks-are) in
       rw (same, w.spec)
       (made-read x q w
-      (subst (λ (m : ℕ). Filled s len (category cat) m w.behind starts p f) same
-      (subst (λ (b : ℕ). Filled s len (category cat) marks b starts p f) here i)))
+      (subst (λ (m : ℕ). Filled s len (category cat) m w.behind starts p 33) same
+      (subst (λ (b : ℕ). Filled s len (category cat) marks b starts p 33) here i)))

@@ -23,16 +23,16 @@ use Rattle.layouts.specs.Categories.{Category, known, category, form_at}
 use Rattle.layouts.proofs.Categories.{seven-each}
 use Rattle.layouts.proofs.Parsed.{got-refused, pick_yes, through}
 use Rattle.layouts.proofs.Windows.{run_trace, run-within}
-use Rattle.layouts.specs.declared.ends.End.{End}
-use Rattle.layouts.specs.declared.ends.End.TheVariants.{At, Refused}
+use Rattle.layouts.specs.End.{End}
+use Rattle.layouts.specs.End.{At, Refused}
 use Rattle.layouts.specs.declared.form.Form.{Form}
 use Rattle.blocks.specs.Specification.{flags}
 use Rattle.layouts.specs.Presence.{needs_of, meets}
-use Rattle.blocks.specs.Marks.{marks_of, flags_of, groups_of, next_marked}
+use Rattle.blocks.specs.Marks.{marks_of, flags_of, groups_of, next_marked, next_from}
 use Rattle.blocks.specs.Records.{Rec, formats, marks_spare, layout_of, unmarked, specification_refusal, marks_refusal, is_type, value_or, type_in, type_of, present}
 use Rattle.blocks.specs.Offsets.{specification_at, items_at, record_at}
 use Rattle.blocks.specs.Walks.{onward, run_of, after_items, rest_of}
-use Rattle.blocks.specs.declared.walk.Walked.{Walked}
+use Rattle.blocks.specs.Walked.{Walked}
 use Rattle.items.specs.Typed.{val}
 use Rattle.blocks.proofs.NextLaws.{next-within, next-marked}
 use Rattle.blocks.proofs.MarksLaws.{flags_32, formats-more, refusal-more, meets-more, flags_long, Marked, specification-marked, spec-end}
@@ -204,24 +204,26 @@ module _ (s : List ℕ) (len : ℕ) (c : Category) (marks start budget count : �
         go (refused n) = refl
         go (got trs q) = refl
 
-  -- the code's field, the next that is marked, or 33
-  module _ (field f at typ : ℕ) (low : 1 ≤ field) (is : (f ≡ next_marked (drop (field - 1) (flags_of 32 marks)) field) × (field ≤ f) × (f ≤ 33)) where
-    rest-next : rest f at typ ≡ rest field at typ
-    unfolding rest_of
-    rest-next =
-        let n = next_marked (drop (field - 1) (flags_of 32 marks)) field in
-        let e : field - 1 + (n - field) ≡ f - 1 = omega (arith, is.0, is.1) in
-        rw (drop-drop (n - field) (field - 1) (flags_of 32 marks), drop-drop (n - field) (field - 1) c.fields, e)
-        at (left-next (drop (field - 1) (flags_of 32 marks)) (drop (field - 1) c.fields) field at typ)
+  -- on to the next field that is marked, or behind the last
+  rest-next : (field f at typ : ℕ) → 1 ≤ field → f ≡ next_from marks field → rest f at typ ≡ rest field at typ
+  unfolding rest_of
+  rest-next field f at typ low is =
+      let bs = drop (field - 1) (flags_of 32 marks) in
+      let n = next_marked bs field in
+      let up = (next-within bs field).0 in
+      let e : field - 1 + (n - field) ≡ f - 1 = omega (arith, is) in
+      rw (drop-drop (n - field) (field - 1) (flags_of 32 marks), drop-drop (n - field) (field - 1) c.fields, e)
+      at (left-next bs (drop (field - 1) c.fields) field at typ)
 
+  module _ (field at typ : ℕ) (low : 1 ≤ field) where
     -- behind the last item
-    module _ (over : 32 < f) (n : ℕ) (t : Table n c) where
+    module _ (over : next_from marks field ≡ 33) (n : ℕ) (t : Table n c) where
       rest_over : pick (meets (needs_of n) typ (flags_of 32 marks)) (run_of s len c budget at (count + 1)) (Walked.Refused presence_broken start)
           ≡ rest field at typ
       unfolding rest_of flags_of formats items_at
       rest_over =
-          let none : drop (f - 1) (flags_of 32 marks) ≡ [] = drop_of_length-le (flags_of 32 marks) {i = f - 1} (omega arith) in
-          rw (← rest-next, none, type-end, t.cat)
+          let none : drop 32 (flags_of 32 marks) ≡ [] = drop_of_length-le (flags_of 32 marks) {i = 32} (omega arith) in
+          rw (← rest-next field 33 at typ low (sym over), none, type-end, t.cat)
 
       pub rest-present : meets (needs_of n) typ (flags_of 32 marks) ≡ true → (r : Walked) → r ≡ run_of s len c budget at (count + 1) → r ≡ rest field at typ
       rest-present m r e = e ∙ (rw m at rest_over)
@@ -230,7 +232,7 @@ module _ (s : List ℕ) (len : ℕ) (c : Category) (marks start budget count : �
       rest-absent m = rw m at rest_over
 
     -- at an item
-    module _ (more : f ≤ 32) (fine : marks_refusal c marks ≡ 0) where
+    module _ (f : ℕ) (is : (f ≡ next_from marks field) × (field ≤ f) × (f ≤ 32)) (fine : marks_refusal c marks ≡ 0) where
       abbrev one : Parsed ℕ Trace
       one = item_at s len (format (layout (form_at c f))) at
 
@@ -240,7 +242,7 @@ module _ (s : List ℕ) (len : ℕ) (c : Category) (marks start budget count : �
           let n = next_marked (drop (field - 1) (flags_of 32 marks)) field in
           let e : field - 1 + (n - field) ≡ f - 1 = omega (arith, is.0, is.1) in
           let few : length (drop (field - 1) (flags_of 32 marks)) ≡ 33 - field = simp length-drop (omega arith) in
-          rw (get_or-drop, e) at (next-marked (drop (field - 1) (flags_of 32 marks)) field (omega (arith, is.0)))
+          rw (get_or-drop, e) at (next-marked (drop (field - 1) (flags_of 32 marks)) field (omega (arith, is.0, is.2)))
 
       fields-here : drop (f - 1) c.fields ≡ form_at c f ∷ drop f c.fields
       fields-here =
@@ -253,12 +255,12 @@ module _ (s : List ℕ) (len : ℕ) (c : Category) (marks start budget count : �
       unfolding flags_of
       marks-here =
           let e : f ≡ suc (f - 1) = omega (arith, is.1) in
-          drop-cons (flags_of 32 marks) (f - 1) false (omega arith) ∙ rw (here, ← e)
+          drop-cons (flags_of 32 marks) (f - 1) false (omega (arith, is.2)) ∙ rw (here, ← e)
 
       pub rest-refused : (w : ℕ) → Refused w ≡ end_of one → Walked.Refused w start ≡ rest field at typ
       unfolding rest_of
       rest-refused w h =
-          rw (← rest-next, fields-here, marks-here)
+          rw (← rest-next field f at typ low is.0, fields-here, marks-here)
           (left-refused (form_at c f) (drop f (flags_of 32 marks)) (drop f c.fields) at typ w (ended one h))
 
       pub rest_passed : (q : ℕ) → At q ≡ end_of one → (x : ℕ) → x ≡ pick (is_type (form_at c f)) (val (trace_at (format (layout (form_at c f))) s at) 0 0) typ
@@ -270,7 +272,7 @@ module _ (s : List ℕ) (len : ℕ) (c : Category) (marks start budget count : �
           = e ∙ rw (value_there typ (layout (form_at c f)) s len at q w.0 w.1) in
           let n : f + 1 - 1 ≡ f = omega arith in
           same
-          ∙ rw (← rest-next, n, typed, fields-here, marks-here)
+          ∙ rw (← rest-next field f at typ low is.0, n, typed, fields-here, marks-here)
           (left_passed (form_at c f) (drop f (flags_of 32 marks)) (drop f c.fields) at typ w.0 q w.1)
 
 module _ (s : List ℕ) (len : ℕ) (c : Category) (at : ℕ) where

@@ -5,8 +5,8 @@ use Rattle.octets.specs.Numbers.{octets}
 use Rattle.layouts.specs.Formats.{Parsed, refused, got}
 use Rattle.layouts.specs.Categories.{Category, category}
 use Rattle.blocks.specs.Headers.{header_of}
-use Rattle.blocks.specs.declared.header.Head.{Head}
-use Rattle.blocks.specs.declared.header.Head.TheVariants.{Good, Refused}
+use Rattle.blocks.specs.Head.{Head}
+use Rattle.blocks.specs.Head.{Good, Refused}
 use Rattle.blocks.specs.Records.{Rec, put_rec}
 use Rattle.blocks.specs.Offsets.{record_at}
 

@@ -7,9 +7,9 @@ use Rattle.blocks.specs.Records.{Rec}
 use Rattle.blocks.specs.Blocks.{all, block_of}
 use Rattle.blocks.specs.Offsets.{record_at}
 use Rattle.blocks.specs.Steps.{step_of}
-use Rattle.blocks.specs.declared.header.Head.{Head}
+use Rattle.blocks.specs.Head.{Head}
 use Rattle.blocks.specs.declared.record.Record.{Record}
-use Rattle.blocks.specs.declared.cursor.Step.{Step}
+use Rattle.blocks.specs.Step.{Step}
 
 -- from one offset to another: each record starts where the one before it ended
 module _ (s : List ℕ) (len : ℕ) (c : Category) where

@@ -9,7 +9,7 @@ use Rattle.layouts.specs.Layouts.{is_unused, format, kind_of}
 use Rattle.layouts.specs.Ends.{kind_end}
 use Rattle.layouts.specs.Tables.{layout}
 use Rattle.layouts.specs.Categories.{Category, known, form_at, layout_at}
-use Rattle.layouts.specs.declared.ends.End.{End}
+use Rattle.layouts.specs.End.{End}
 use Rattle.layouts.specs.declared.ends.Kind.{Kind}
 use Rattle.layouts.specs.declared.ends.Kind.TheVariants.{Spare, Fixed, Extended, Repeated, Explicit}
 use Rattle.layouts.specs.declared.form.Form.{Form}

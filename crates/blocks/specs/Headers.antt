@@ -4,8 +4,8 @@ use Rattle.octets.specs.Choice.{pick}
 use Rattle.octets.specs.Numbers.{number}
 use Rattle.octets.specs.Refusals.{too_short, unknown_category, len_too_small}
 use Rattle.layouts.specs.Categories.{known}
-use Rattle.blocks.specs.declared.header.Head.{Head}
-use Rattle.blocks.specs.declared.header.Head.TheVariants as head
+use Rattle.blocks.specs.Head.{Head}
+use Rattle.blocks.specs.Head as head
 
 -- by what is made of a refusal's number, and of the category and LEN
 module _ {A : Type 0} (no : ℕ → A) (yes : ℕ → ℕ → A) where

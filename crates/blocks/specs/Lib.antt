@@ -14,3 +14,10 @@ pub mod Meaning
 pub mod Boundaries
 pub mod Faults
 pub mod Statistics
+pub mod Head
+pub mod Step
+pub mod Found
+pub mod Walked
+pub mod Reading
+pub mod Seen
+pub mod InBlock

@@ -1,5 +1,5 @@
 -- Marks as a number: bit f - 1 for field f, as the typed record has them.
-use Rattle.std.specs.Prelude.{Bool, true, false, ◌&&◌, List, [], ◌∷◌, ℕ, zero, suc, ◌+◌, ◌*◌, ◌/◌, get_or}
+use Rattle.std.specs.Prelude.{Bool, true, false, ◌&&◌, List, [], ◌∷◌, ℕ, zero, suc, ◌+◌, ◌-◌, ◌*◌, ◌/◌, get_or, drop}
 use Rattle.octets.specs.Choice.{pick, odd}
 
 -- marks as a number, field 1 in its low bit
@@ -25,6 +25,10 @@ groups_of (suc n) s at = get_or s at 0 / 2 ∷ groups_of n s (at + 1)
 unfoldable pub next_marked : List Bool → ℕ → ℕ
 next_marked [] f = f
 next_marked (b ∷ bs) f = pick b f (next_marked bs (suc f))
+
+-- of the fields from one on, the first that these marks mark; 33 where they mark none
+abbrev pub next_from : ℕ → ℕ → ℕ
+next_from marks from = next_marked (drop (from - 1) (flags_of 32 marks)) from
 
 -- of n fields, each that the first number marks is marked in the second
 unfoldable pub has_all : ℕ → ℕ → ℕ → Bool

@@ -14,9 +14,9 @@ use Rattle.blocks.specs.Typed.{absent}
 use Rattle.blocks.specs.Steps.{entry_group_of, entry_values}
 use Rattle.blocks.specs.declared.record.Record.{Record}
 use Rattle.blocks.specs.declared.statistics.Statistics.{Statistics}
-use Rattle.blocks.specs.declared.statistics.Entry.{Entry}
-use Rattle.blocks.specs.declared.statistics.Seen.{Seen}
-use Rattle.blocks.specs.declared.statistics.Seen.TheVariants as seen
+use Rattle.items.specs.declared.typed.Counter.{Counter}
+use Rattle.blocks.specs.Seen.{Seen}
+use Rattle.blocks.specs.Seen as seen
 
 -- a statistics report (01 "Refusal numbers", 13): category 23 type 3, with 010 (field 1), 015 (field 3) and 120 (field 9)
 abbrev pub is_report : ℕ → ℕ → ℕ → Bool
@@ -43,11 +43,13 @@ latest_time = latest
 abbrev pub statistics_of : Record → Statistics
 statistics_of t = numbers_of t.source t.service t.time t.entries
 
--- entry k of 23/120, of those that lie from an offset: TYPE, REF, count
+-- an entry: TYPE, REF, count, for the ledger, which does not see the items
+abbrev pub Entry : Type 0
+Entry = Counter
+
+-- entry k of 23/120, of those that lie from an offset
 abbrev pub report_entry : List ℕ → ℕ → ℕ → Entry
-report_entry s at k =
-    let c = counter_of (entry_values s (entry_group_of cat23.cat) at k) in
-    record { typ = c.typ; reference = c.reference; count = c.count }
+report_entry s at k = counter_of (entry_values s (entry_group_of cat23.cat) at k)
 
 -- of a record and the next start: a statistics report and its numbers, or another record
 abbrev pub seen_of : Record → ℕ → Seen

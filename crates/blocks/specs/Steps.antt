@@ -14,13 +14,13 @@ use Rattle.blocks.specs.Headers.{header_of}
 use Rattle.blocks.specs.Records.{Rec}
 use Rattle.blocks.specs.Offsets.{specification_at, record_at}
 use Rattle.blocks.specs.Typed.{absent, stop_of, typed_rec}
-use Rattle.blocks.specs.declared.header.Head.{Head}
-use Rattle.blocks.specs.declared.header.Head.TheVariants as head
+use Rattle.blocks.specs.Head.{Head}
+use Rattle.blocks.specs.Head as head
 use Rattle.blocks.specs.declared.record.Record.{Record}
-use Rattle.blocks.specs.declared.cursor.Step.{Step}
-use Rattle.blocks.specs.declared.cursor.Step.TheVariants as step
-use Rattle.blocks.specs.declared.cursor.Found.{Found}
-use Rattle.blocks.specs.declared.cursor.Found.TheVariants as found
+use Rattle.blocks.specs.Step.{Step}
+use Rattle.blocks.specs.Step as step
+use Rattle.blocks.specs.Found.{Found}
+use Rattle.blocks.specs.Found as found
 
 -- where the items of a record at an offset start: behind its specification
 abbrev pub items_from : List ℕ → ℕ → Category → ℕ → ℕ

@@ -10,9 +10,9 @@ use Rattle.layouts.specs.Presence.{needs_of, meets}
 use Rattle.blocks.specs.Records.{Rec, formats, type_in}
 use Rattle.blocks.specs.Blocks.{Block, wrong, all, block_of}
 use Rattle.blocks.specs.Offsets.{items_at, record_at}
-use Rattle.blocks.specs.declared.walk.Walked.{Walked}
-use Rattle.blocks.specs.declared.walk.Reading.{Reading}
-use Rattle.blocks.specs.declared.walk.Reading.TheVariants as reading
+use Rattle.blocks.specs.Walked.{Walked}
+use Rattle.blocks.specs.Reading.{Reading}
+use Rattle.blocks.specs.Reading as reading
 
 module _ (s : List ℕ) (len : ℕ) (c : Category) where
   abbrev pub onward : ℕ → Parsed ℕ Rec → (ℕ → Walked) → Walked

@@ -1,34 +1,33 @@
 // The header of a block: CAT and LEN.
-ghost use Rattle.std.specs.Prelude.{◌≡◌};
+ghost use Rattle.std.specs.Prelude.{◌≡◌, IfOk};
+ghost use Rattle.blocks.specs.Head.{as_head};
 ghost use Rattle.blocks.specs.Headers.{header_of, listed_head, head_listed};
 
+use crate::block::Block;
 use layouts::category::is_known;
-use octets::refusal;
+use layouts::ends::Window;
+use octets::refusal::Refusal;
 
-// The category and LEN, or the number that refuses the block before its records.
-#[derive(Clone, Copy)]
-pub enum Head {
-    Good(u8, usize),
-    Refused(u8),
-}
-
-// Under 3 octets; category; LEN below 4; LEN beyond the octets lent.
-pub(crate) fn header(s: &[u8]) -> Head
-    ensures { (result ≡ header_of s.now) × (listed_head result ≡ head_listed s.now) }
+// The block, or what refuses it before its records: under 3 octets; category; LEN below 4; LEN beyond the octets lent.
+pub(crate) fn header(s: &[u8]) -> Result<Block<'_>, Refusal>
+    ensures { (as_head result ≡ header_of s.now) × (listed_head (as_head result) ≡ head_listed s.now) × IfOk result (λ block. block.window.octets.now ≡ s.now) }
 {
     if s.len() < 3 {
-        return Head::Refused(refusal::TOO_SHORT);
+        return Err(Refusal::TooShort);
     }
     let cat = s[0];
     if !is_known(cat) {
-        return Head::Refused(refusal::UNKNOWN_CATEGORY);
+        return Err(Refusal::UnknownCategory);
     }
-    let len = octets::read2(s, 1) as usize;
+    let len = octets::read(s, 1, 2) as usize;
     if len < 4 {
-        return Head::Refused(refusal::LEN_TOO_SMALL);
+        return Err(Refusal::LenTooSmall);
     }
     if s.len() < len {
-        return Head::Refused(refusal::TOO_SHORT);
+        return Err(Refusal::TooShort);
     }
-    Head::Good(cat, len)
+    Ok(Block {
+        window: Window { octets: s, len },
+        cat,
+    })
 }

@@ -1,7 +1,9 @@
 #![tactic(auto)]
 
 // Blocks of records: the header, the specification, and records one after the other.
+pub mod block;
 pub mod cursor;
+pub mod fault;
 pub mod header;
 pub mod marks;
 pub mod presence;

@@ -14,35 +14,23 @@ fn has_all(mandatory: u32, marks: u32) -> bool
     marks & mandatory == mandatory
 }
 
-// Whether a field is as the rule of the record's type asks. Its mark is looked at only where that matters, which keeps the loop over the fields cheap.
+// Whether a field is as the rule of the record's type asks. Its mark is looked at only where that matters, which keeps the test of all fields cheap.
 fn is_met(cat: u8, message_type: u8, marks: u32, f: usize) -> bool
     requires { (1 ≤ f) × (f ≤ 32) }
     ensures { result ≡ met (need_at (needs_of cat) message_type f) (marked marks f) }
 {
-    let rule = rule_of(cat, message_type, f);
-    let need = rule.0;
-    match need {
+    match rule_of(cat, message_type, f).0 {
         Need::M => is_marked(marks, f),
         Need::O => true,
         Need::X => !is_marked(marks, f),
     }
 }
 
-// Whether a record of a type has the items that it must have, and none that it must not. One that lacks a mandatory item, as 000, without which it has
-// no type, is not looked at further; of any other each field is held to the rule of its type.
+// Whether a record of a type has the items that it must have, and none that it must not. One that lacks a mandatory item, as 000, without which it
+// has no type, is not looked at further; of any other each field is held to the rule of its type.
 pub fn is_present(cat: u8, message_type: u8, marks: u32) -> bool
     ensures { result ≡ meets (needs_of cat) message_type (flags_of 32 marks) }
 {
-    if !has_all(mandatory_of(cat), marks) {
-        return false;
-    }
-    let last = last_field(cat);
-    let mut f: usize = 1;
-    while f <= last {
-        if !is_met(cat, message_type, marks, f) {
-            return false;
-        }
-        f += 1;
-    }
-    true
+    has_all(mandatory_of(cat), marks)
+        && (1..last_field(cat) + 1).all(|f| is_met(cat, message_type, marks, f))
 }

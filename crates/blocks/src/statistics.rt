@@ -1,18 +1,24 @@
-// What the ledger asks of a record, in plain numbers, so that it names no type of the items.
+// What the ledger asks of a record, in plain numbers and by names of this layer, as it sees no layer below.
 ghost use Rattle.std.specs.Prelude.{◌≡◌, ◌+◌, ◌*◌, ◌≤◌, ◌<◌, length};
 ghost use Rattle.layouts.specs.Categories.{cat23};
 ghost use Rattle.blocks.specs.Statistics.{is_report, is_statistics, numbers_of, statistics_of, seen_of, listed_seen, seen_listed, report_entry};
 ghost use Rattle.blocks.specs.Steps.{take_of, entry_group_of};
 ghost use Rattle.blocks.specs.declared.cursor.Cursor.{Cursor};
-ghost use Rattle.blocks.specs.declared.cursor.Step.{Step};
+ghost use Rattle.blocks.specs.Step.{Taken};
+ghost use Rattle.blocks.specs.Seen.{as_seen};
 ghost use Rattle.blocks.specs.declared.record.Record.{Record};
 
+use crate::block::Block;
 use crate::marks::is_marked;
-use crate::record::{Record, start_of, starts_at};
+use crate::record::Record;
 use items::item::{counter_at, octet_at, place_at, service_at, source_at, time_at};
 use items::typed::{LATEST, Place, Service, Source, TimeOfDay};
-use layouts::category::Cat23;
+use layouts::category::{Cat23, Category};
+use layouts::ends::Window;
 use layouts::form::Form;
+
+// An entry of 23/120: TYPE, REF and count.
+pub use items::typed::Counter as Entry;
 
 // The source, the octet of 23/015, the time, the offset of the first entry of 23/120 and how many there are.
 #[derive(Clone, Copy)]
@@ -25,19 +31,11 @@ pub struct Statistics {
     pub count: usize,
 }
 
-// A record of category 23 as the ledger sees it, with the next start.
+// A record of category 23 as the ledger sees it: its numbers, where it is a statistics report; and the next start.
 #[derive(Clone, Copy)]
-pub enum Seen {
-    Report(Statistics, usize),
-    Other(usize),
-}
-
-// An entry of 23/120 as the ledger has it, whose crate cannot name the items' type: TYPE, REF and count.
-#[derive(Clone, Copy)]
-pub struct Entry {
-    pub typ: u8,
-    pub reference: u8,
-    pub count: u32,
+pub struct Seen {
+    pub report: Option<Statistics>,
+    pub next: usize,
 }
 
 // The category that statistics reports are of, and the greatest time that one may have.
@@ -49,11 +47,11 @@ pub const LATEST_TIME: u32 = LATEST;
 fn is_report(cat: u8, message_type: u8, marks: u32) -> bool
     ensures { result ≡ is_report cat message_type marks }
 {
-    (cat == CATEGORY)
-        & (message_type == Cat23::STATISTICS)
-        & is_marked(marks, Cat23::F010)
-        & is_marked(marks, Cat23::F015)
-        & is_marked(marks, Cat23::F120)
+    cat == CATEGORY
+        && message_type == Cat23::STATISTICS
+        && is_marked(marks, Cat23::F010)
+        && is_marked(marks, Cat23::F015)
+        && is_marked(marks, Cat23::F120)
 }
 
 // The same of a typed record.
@@ -83,11 +81,7 @@ pub fn statistics_of(record: Record) -> Statistics
     requires { («record».service.sid < 16) × («record».service.styp < 16) }
     ensures { result ≡ statistics_of «record» }
 {
-    let source = record.source;
-    let service = record.service;
-    let time = record.time;
-    let entries = record.entries;
-    numbers_of(source, service, time, entries)
+    numbers_of(record.source, record.service, record.time, record.entries)
 }
 
 // Entry k of those that lie from an offset. Only for the next layer: it lies in the slice.
@@ -95,29 +89,32 @@ pub fn counter(s: &[u8], at: usize, k: usize) -> Entry
     requires { at + k * (entry_group_of cat23.cat).wide + (entry_group_of cat23.cat).wide ≤ length s.now }
     ensures { result ≡ report_entry s.now at k }
 {
-    let entry = counter_at(s, at + k * Cat23::ENTRY);
-    Entry {
-        typ: entry.typ,
-        reference: entry.reference,
-        count: entry.count,
-    }
+    counter_at(s, at + k * Cat23::ENTRY)
 }
 
 // The record at an offset of a block of category 23 that was accepted, as the ledger sees it: no typed record is made of it. Only for the next
 // layer, which judges a block once; what a step takes there is what is seen.
 pub fn see(s: &[u8], len: usize, at: usize) -> Seen
     requires { (at < len) × (len ≤ length s.now) }
-    ensures { (t : Record) → (c : Cursor) → take_of s.now len cat23.cat at ≡ Step.Taken t c → (result ≡ seen_of t c.at) × (listed_seen result ≡ seen_listed t c.at) }
+    ensures { (t : Record) → (c : Cursor) → take_of s.now len cat23.cat at ≡ Taken t c → (as_seen result ≡ seen_of t c.at) × (listed_seen (as_seen result) ≡ seen_listed t c.at) }
 {
-    let starts = starts_at(s, len, Cat23::CAT, at);
-    let items = starts.items;
-    let message_type = octet_at(s, start_of(items, Form::MessageType));
-    if !is_report(Cat23::CAT, message_type, starts.marks) {
-        return Seen::Other(starts.end);
+    let block = Block {
+        window: Window { octets: s, len },
+        cat: Cat23::CAT,
+    };
+    let starts = block.starts_at(at);
+    let message_type = octet_at(s, starts.of(Form::MessageType));
+    let report = if is_report(Cat23::CAT, message_type, starts.marks) {
+        let source = source_at(s, starts.of(Form::Source));
+        let service = service_at(s, starts.of(Form::Service));
+        let time = time_at(s, starts.of(Form::Time));
+        let entries = place_at(s, starts.of(Form::Statistics), 0);
+        Some(numbers_of(source, service, time, entries))
+    } else {
+        None
+    };
+    Seen {
+        report,
+        next: starts.end,
     }
-    let source = source_at(s, start_of(items, Form::Source));
-    let service = service_at(s, start_of(items, Form::Service));
-    let time = time_at(s, start_of(items, Form::Time));
-    let entries = place_at(s, start_of(items, Form::Statistics), 0);
-    Seen::Report(numbers_of(source, service, time, entries), starts.end)
 }

@@ -11,12 +11,12 @@ use Rattle.octets.specs.Outcomes.{Outcome, no, puts, within, output_of, outcome_
 use Rattle.octets.specs.Refusals.{output_too_short}
 use Rattle.blocks.specs.declared.record.Record.{Record}
 use Rattle.writing.specs.Written.{write_of, rewrite_of}
-use Rattle.octets.specs.declared.output.Written.{Written}
+use Rattle.octets.specs.Written.{Written}
 use Rattle.ledger.specs.Ledgers.{answer, Held}
 use Rattle.pages.specs.Pages.{new, store_of, load_of, turn_of}
 use Rattle.pages.specs.declared.forms.Form.{Form}
 use Rattle.pages.specs.declared.forms.Table.{Table}
-use Rattle.ledger.specs.declared.Answer.{Answer}
+use Rattle.ledger.specs.Answer.{Answer}
 use Rattle.ledger.specs.declared.Ledger.{Ledger}
 use Rattle.ledger.proofs.CellLaws.{ledger_same}
 use Rattle.pages.proofs.PageTheorems.{store_load, load_store}

@@ -21,11 +21,11 @@ use Rattle.blocks.specs.Meaning.{rec_of}
 use Rattle.blocks.specs.Alike.{RecordAlikeAt, RecordsAlikeAt}
 use Rattle.blocks.specs.Boundaries.{Visited}
 use Rattle.blocks.specs.Typed.{has}
-use Rattle.blocks.specs.declared.header.Head.{Head}
+use Rattle.blocks.specs.Head.{Head}
 use Rattle.blocks.specs.declared.record.Record.{Record}
-use Rattle.blocks.specs.declared.walk.Reading.{Reading}
-use Rattle.blocks.specs.declared.cursor.Step.{Step}
-use Rattle.blocks.specs.declared.cursor.Found.{Found}
+use Rattle.blocks.specs.Reading.{Reading}
+use Rattle.blocks.specs.Step.{Step}
+use Rattle.blocks.specs.Found.{Found}
 use Rattle.blocks.proofs.RecordTheorems.{spare-bits}
 use Rattle.blocks.proofs.JoinLaws.{second_block}
 use Rattle.blocks.proofs.BoundaryLaws.{visited, step_end}
@@ -33,7 +33,7 @@ use Rattle.blocks.proofs.SameAnswers.{read_alike, block-alike, step-alike, entry
 use Rattle.octets.specs.Outcomes.{puts}
 use Rattle.writing.specs.Written.{write_of, rewrite_of}
 use Rattle.writing.specs.Same.{Same}
-use Rattle.octets.specs.declared.output.Written.{Written}
+use Rattle.octets.specs.Written.{Written}
 use Rattle.writing.proofs.RewriteTheorems.{rewrite_accepted, rewrite_reading, rewrite_again, rewrite_short, rewrite_same, rewrite_typed}
 use Rattle.writing.proofs.WriteTheorems.{write_normal, write_reading}
 use Rattle.writing.proofs.ReadBackTheorems.{write_back, entry-back, entry-none}

@@ -12,7 +12,7 @@ use lib.ListN.{length, get_or, length-map}
 use Rattle.octets.specs.Choice.{pick}
 use Rattle.octets.specs.Numbers.{Octets}
 use Rattle.octets.proofs.Cases.{test}
-use Rattle.blocks.specs.declared.walk.Reading.{Reading}
+use Rattle.blocks.specs.Reading.{Reading}
 use Rattle.rows.specs.Rows.{row_of, life_of, time_of, last_time, add_up}
 use Rattle.rows.specs.Posting.{refused, entries, names, answers, after, of_key, tally, accepted}
 use Rattle.rows.specs.Order.{times, upto, answers_in_order}
@@ -22,7 +22,7 @@ use Rattle.rows.proofs.Theorems.{adding_key, adding_time, any_order, row_rule, o
 use Rattle.ledger.specs.Ledgers.{answer, rows_of, cells_of, keeps_rules, Held}
 use Rattle.ledger.specs.Posts.{post_of}
 use Rattle.ledger.specs.Steps.{Kept}
-use Rattle.ledger.specs.declared.Answer.{Answer}
+use Rattle.ledger.specs.Answer.{Answer}
 use Rattle.ledger.specs.declared.Ledger.{Ledger}
 use Rattle.ledger.proofs.CellLaws.{ledger_same}
 use Rattle.ledger.proofs.RuleLaws.{kept-rules, rules-kept}

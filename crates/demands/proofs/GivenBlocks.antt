@@ -21,12 +21,12 @@ use Rattle.blocks.specs.Headers.{header_of}
 use Rattle.blocks.specs.Offsets.{record_at}
 use Rattle.blocks.specs.Walks.{read_of}
 use Rattle.blocks.specs.Steps.{step_of, listed_step, found_of, entry_of, listed_entry}
-use Rattle.blocks.specs.declared.cursor.Found.{Found}
-use Rattle.blocks.specs.declared.cursor.Step.{Step}
-use Rattle.blocks.specs.declared.cursor.Step.TheVariants as variants
-use Rattle.blocks.specs.declared.cursor.Found.TheVariants as found
-use Rattle.blocks.specs.declared.header.Head.{Head}
-use Rattle.blocks.specs.declared.walk.Reading.{Reading}
+use Rattle.blocks.specs.Found.{Found}
+use Rattle.blocks.specs.Step.{Step}
+use Rattle.blocks.specs.Step as variants
+use Rattle.blocks.specs.Found as found
+use Rattle.blocks.specs.Head.{Head}
+use Rattle.blocks.specs.Reading.{Reading}
 use Rattle.blocks.proofs.HeaderLaws.{header-good}
 use Rattle.blocks.proofs.WalkSteps.{table}
 use Rattle.blocks.proofs.Faults.{header_given_1, header_given_2, header_given_3, header_refusals}

@@ -16,7 +16,7 @@ use Rattle.ledger.specs.Ledgers.{cells_of}
 use Rattle.pages.specs.Pages.{new, load_of, store_of}
 use Rattle.pages.specs.declared.forms.Form.{Form}
 use Rattle.ledger.specs.Steps.{Kept}
-use Rattle.ledger.specs.declared.Answer.{Answer}
+use Rattle.ledger.specs.Answer.{Answer}
 use Rattle.ledger.proofs.CellLaws.{rows_back}
 use Rattle.ledger.proofs.RuleLaws.{rules-kept}
 use Rattle.pages.proofs.PageTheorems.{loaded-good}

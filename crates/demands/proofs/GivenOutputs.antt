@@ -11,7 +11,7 @@ use lib.ListN.{length, take, drop}
 use lib.Seq.{take_at}
 use Rattle.octets.specs.Numbers.{laid}
 use Rattle.octets.specs.Outcomes.{Outcome, no, puts, within, answer_of, output_of, listed_written, outcome_listed}
-use Rattle.octets.specs.declared.output.Written.{Written}
+use Rattle.octets.specs.Written.{Written}
 use Rattle.octets.proofs.Cases.{choose}
 use Rattle.octets.proofs.Outcomes.{says-no, says-short, says-puts, written-laid}
 use Rattle.demands.specs.Given.{OutputFault, own, output_short}

@@ -11,7 +11,7 @@ use lib.ListN.{length}
 use Rattle.octets.specs.Numbers.{Octets}
 use Rattle.octets.specs.Outcomes.{no, puts}
 use Rattle.octets.specs.Refusals.{rules_broken}
-use Rattle.octets.specs.declared.output.Written.{Written}
+use Rattle.octets.specs.Written.{Written}
 use Rattle.octets.proofs.Cases.{test, choose}
 use Rattle.octets.proofs.Outcomes.{no_same, puts-same, not_puts}
 use Rattle.rows.specs.Rows.{no_time}
@@ -25,7 +25,7 @@ use Rattle.pages.specs.Pages.{old, new, row_long, starts, page_of, store_of, cou
 use Rattle.pages.specs.declared.forms.Form.{Form}
 use Rattle.pages.specs.declared.forms.Table.{Table}
 use Rattle.pages.proofs.PageTheorems.{page-ruled}
-use Rattle.ledger.specs.declared.Answer.{Answer}
+use Rattle.ledger.specs.Answer.{Answer}
 use Rattle.ledger.specs.declared.Ledger.{Ledger}
 use Rattle.pages.proofs.PageLaws.{Stand, head-says, head_so}
 use Rattle.demands.specs.Operations.{Loads, Stores, Turns}

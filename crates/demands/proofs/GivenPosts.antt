@@ -11,7 +11,7 @@ use Rattle.octets.specs.Choice.{pick}
 use Rattle.octets.specs.Numbers.{Octets}
 use Rattle.blocks.proofs.BoundaryLaws.{read-stopped}
 use Rattle.ledger.specs.Ledgers.{answer}
-use Rattle.ledger.specs.declared.Answer.{Answer}
+use Rattle.ledger.specs.Answer.{Answer}
 use Rattle.ledger.specs.declared.Ledger.{Ledger}
 use Rattle.demands.specs.Operations.{Posts}
 use Rattle.demands.specs.Verdicts.{Verdict, broken, unread, missing, other, full, past, added, case}

@@ -12,7 +12,7 @@ use Rattle.octets.specs.Choice.{pick}
 use Rattle.octets.specs.Numbers.{Octets, number}
 use Rattle.octets.specs.Outcomes.{no, puts}
 use Rattle.octets.specs.Refusals.{unknown_category, none_marked, spare_marked, presence_broken}
-use Rattle.octets.specs.declared.output.Written.{Written}
+use Rattle.octets.specs.Written.{Written}
 use Rattle.octets.proofs.Cases.{test, choose}
 use Rattle.octets.proofs.Outcomes.{no_same, not_puts}
 use Rattle.layouts.specs.Layouts.{is_unused}

@@ -14,7 +14,7 @@ use Rattle.octets.proofs.Cases.{test}
 use Rattle.octets.proofs.Parts.{Octets-take}
 use Rattle.ledger.specs.Ledgers.{answer, rows_of, cells_of}
 use Rattle.pages.specs.Pages.{new, page_of, load_of, store_of}
-use Rattle.ledger.specs.declared.Answer.{Answer}
+use Rattle.ledger.specs.Answer.{Answer}
 use Rattle.ledger.proofs.CellLaws.{rows_back}
 use Rattle.pages.proofs.PageTheorems.{kept_load}
 use Rattle.feed.specs.Runs.{state, Run, behind, run_over, zeros, done_of}

@@ -6,8 +6,8 @@ use borrow.Author.Tests.{le-ltb}
 use lib.ListN.{length}
 use Rattle.octets.specs.Numbers.{laid}
 use Rattle.octets.specs.Outcomes.{WrittenListed, within, listed_written}
-use Rattle.octets.specs.declared.output.Written.{Written}
-use Rattle.ledger.specs.declared.Answer.{Answer}
+use Rattle.octets.specs.Written.{Written}
+use Rattle.ledger.specs.Answer.{Answer}
 use Rattle.pages.specs.Pages.{new, store_of}
 use Rattle.doors.proofs.DoorSteps.{load_refused, post_refused, post_stored_lem}
 use Rattle.demands.specs.Operations.{Loads, Posts, Stores, WearPosts}

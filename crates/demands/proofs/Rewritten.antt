@@ -10,7 +10,7 @@ use lib.Dec.{eqb}
 use lib.ListN.{length, drop, length-append}
 use Rattle.octets.specs.Choice.{pick, odd}
 use Rattle.octets.specs.Numbers.{Octets, number, octets}
-use Rattle.octets.specs.declared.output.Written.{Written}
+use Rattle.octets.specs.Written.{Written}
 use Rattle.octets.proofs.Cases.{test}
 use Rattle.octets.proofs.Outcomes.{Laid, written-laid}
 use Rattle.octets.proofs.Parts.{Octets-drop}
@@ -26,10 +26,10 @@ use Rattle.blocks.specs.Typed.{has}
 use Rattle.blocks.specs.Steps.{step_of}
 use Rattle.blocks.specs.Meaning.{item_in}
 use Rattle.blocks.specs.Boundaries.{Joined}
-use Rattle.blocks.specs.declared.header.Head.{Head}
+use Rattle.blocks.specs.Head.{Head}
 use Rattle.blocks.specs.declared.record.Record.{Record}
-use Rattle.blocks.specs.declared.walk.Reading.{Reading}
-use Rattle.blocks.specs.declared.cursor.Step.{Step}
+use Rattle.blocks.specs.Reading.{Reading}
+use Rattle.blocks.specs.Step.{Step}
 use Rattle.blocks.proofs.WalkSteps.{by-known}
 use Rattle.blocks.proofs.BlockLaws.{headed-len}
 use Rattle.blocks.proofs.JoinLaws.{second-records}

@@ -12,7 +12,7 @@ use Rattle.octets.specs.Choice.{pick, odd}
 use Rattle.octets.specs.Numbers.{Octets, number}
 use Rattle.octets.specs.Refusals.{no_such}
 use Rattle.octets.proofs.Cases.{test}
-use Rattle.octets.specs.declared.output.Written.{Written}
+use Rattle.octets.specs.Written.{Written}
 use Rattle.layouts.specs.Tables.{counter}
 use Rattle.layouts.specs.Categories.{category, known, entries_form}
 use Rattle.layouts.specs.declared.form.Form.{Form}
@@ -29,12 +29,12 @@ use Rattle.blocks.specs.Statistics.{is_statistics, statistics_of, report_entry}
 use Rattle.blocks.specs.Walks.{answer_of, read_of}
 use Rattle.blocks.specs.Meaning.{item_in}
 use Rattle.blocks.specs.Typed.{has}
-use Rattle.blocks.specs.declared.header.Head.{Head}
+use Rattle.blocks.specs.Head.{Head}
 use Rattle.blocks.specs.declared.record.Record.{Record}
-use Rattle.blocks.specs.declared.statistics.Entry.{Entry as Read}
-use Rattle.blocks.specs.declared.walk.Reading.{Reading}
-use Rattle.blocks.specs.declared.cursor.Step.{Step}
-use Rattle.blocks.specs.declared.cursor.Found.{Found}
+use Rattle.blocks.specs.Statistics.{Entry as Read}
+use Rattle.blocks.specs.Reading.{Reading}
+use Rattle.blocks.specs.Step.{Step}
+use Rattle.blocks.specs.Found.{Found}
 use Rattle.blocks.proofs.ListedLaws.{read-block, entry_listed_lem}
 use Rattle.blocks.proofs.JoinLaws.{second_block}
 use Rattle.blocks.proofs.StepLaws.{entry-taken, entry-counter}
@@ -44,7 +44,7 @@ use Rattle.writing.proofs.ReadBackTheorems.{none-same}
 use Rattle.rows.specs.Posting as posting
 use Rattle.ledger.specs.Posts.{post_of}
 use Rattle.ledger.specs.Reports.{entry_of as made, entries_from, entries_of, report_in, step_at, report_of}
-use Rattle.ledger.specs.declared.Answer.{Answer}
+use Rattle.ledger.specs.Answer.{Answer}
 use Rattle.ledger.specs.declared.Ledger.{Ledger}
 use Rattle.ledger.proofs.ReportLaws.{at_more, report-other, report-counts, report-refused, report-stopped, report-taken}
 use Rattle.ledger.proofs.RecordNumbers.{record_past}

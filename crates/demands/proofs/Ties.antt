@@ -50,52 +50,58 @@ use Rattle.doors.specs.contracts.wear_page_to_new.{ended as wear_page_to_new_end
 use Rattle.doors.specs.contracts.wear_page_to_old.{ended as wear_page_to_old_ended}
 use Rattle.doors.specs.contracts.wear_post.{ended as wear_post_ended}
 use Rattle.doors.specs.contracts.wear_feed.{ended as wear_feed_ended}
+use Rattle.octets.specs.Refusals.{refusal_in}
+use Rattle.octets.specs.Written.{as_written}
+use Rattle.blocks.specs.Reading.{as_reading}
+use Rattle.blocks.specs.Step.{as_step}
+use Rattle.blocks.specs.Found.{as_found}
+use Rattle.ledger.specs.Answer.{as_answer}
 use Rattle.pages.specs.Pages.{old, new}
 use Rattle.demands.specs.Claims.{MeetsJust}
 use Rattle.demands.specs.Operations.{Reads, First, Steps, Entries, Writes, Rewrites, Fresh, Checks, Posts, LentPosts, Loads, Stores, Turns, Begins}
 use Rattle.demands.specs.DoorClaims.{door_versions, door_reads, door_steps, door_entries, door_writes, door_rewrites, door_turns_new, door_turns_old, door_posts, door_feeds}
 
-pub reading : MeetsJust read_ended read.Symbol.name read.Symbol.code (λ _ (s, _) r _. Reads s.now r)
+pub reading : MeetsJust read_ended read.Symbol.name read.Symbol.code (λ _ (s, _) r _. Reads s.now (as_reading r))
 reading M = read.Met.met
 
 pub starting : MeetsJust first_ended first.Symbol.name first.Symbol.code (λ _ _ r _. First r)
 starting M = first.Met.met
 
-pub step-taken : MeetsJust step_ended step.Symbol.name step.Symbol.code (λ _ (c, (s, _)) r _. Steps s.now c.at r)
+pub step-taken : MeetsJust step_ended step.Symbol.name step.Symbol.code (λ _ (c, (s, _)) r _. Steps s.now c.at (as_step r))
 step-taken M = step.Met.met
 
-pub entry_found_lem : MeetsJust entry_ended entry.Symbol.name entry.Symbol.code (λ _ (s, (start, (k, _))) r _. Entries s.now start k r)
+pub entry_found_lem : MeetsJust entry_ended entry.Symbol.name entry.Symbol.code (λ _ (s, (start, (k, _))) r _. Entries s.now start k (as_found r))
 entry_found_lem M = entry.Met.met
 
-pub writing : MeetsJust write_ended write.Symbol.name write.Symbol.code (λ _ (t, (s, (l, _))) r (_, (_, (out, _))). Writes s.now t l.now out.now r)
+pub writing : MeetsJust write_ended write.Symbol.name write.Symbol.code (λ _ (t, (s, (l, _))) r (_, (_, (out, _))). Writes s.now t l.now out.now (as_written r))
 writing M = write.Met.met
 
-pub rewriting : MeetsJust rewrite_ended rewrite.Symbol.name rewrite.Symbol.code (λ _ (s, (l, _)) r (_, (out, _)). Rewrites s.now l.now out.now r)
+pub rewriting : MeetsJust rewrite_ended rewrite.Symbol.name rewrite.Symbol.code (λ _ (s, (l, _)) r (_, (out, _)). Rewrites s.now l.now out.now (as_written r))
 rewriting M = rewrite.Met.met
 
 pub made-fresh : MeetsJust fresh_ended fresh.Symbol.name fresh.Symbol.code (λ _ _ r _. Fresh r)
 made-fresh M = fresh.Met.met
 
-pub checking : MeetsJust check_ended check.Symbol.name check.Symbol.code (λ _ (l, _) r _. Checks l r)
+pub checking : MeetsJust check_ended check.Symbol.name check.Symbol.code (λ _ (l, _) r _. Checks l (refusal_in r))
 checking M = check.Met.met
 
-pub posting : MeetsJust post_ended post.Symbol.name post.Symbol.code (λ _ (l, (s, (k, _))) r _. Posts l s.now k r)
+pub posting : MeetsJust post_ended post.Symbol.name post.Symbol.code (λ _ (l, (s, (k, _))) r _. Posts l s.now k (as_answer r))
 posting M = post.Met.met
 
 pub posting_lent : MeetsJust post_lent_ended post-lent.Symbol.name post-lent.Symbol.code
-    (λ _ (l, (s, (k, _))) r (after, _). LentPosts l.now s.now k after.now r)
+    (λ _ (l, (s, (k, _))) r (after, _). LentPosts l.now s.now k after.now (refusal_in r))
 posting_lent M = post-lent.Met.met
 
-pub loading : MeetsJust load_ended load.Symbol.name load.Symbol.code (λ _ (s, _) r _. Loads s.now r)
+pub loading : MeetsJust load_ended load.Symbol.name load.Symbol.code (λ _ (s, _) r _. Loads s.now (as_answer r))
 loading M = load.Met.met
 
-pub storing : MeetsJust store_ended store.Symbol.name store.Symbol.code (λ _ (l, (o, _)) r (_, (out, _)). Stores l o.now out.now r)
+pub storing : MeetsJust store_ended store.Symbol.name store.Symbol.code (λ _ (l, (o, _)) r (_, (out, _)). Stores l o.now out.now (as_written r))
 storing M = store.Met.met
 
-pub turning_new : MeetsJust to_new_ended to-new.Symbol.name to-new.Symbol.code (λ _ (s, (o, _)) r (_, (out, _)). Turns old new s.now o.now out.now r)
+pub turning_new : MeetsJust to_new_ended to-new.Symbol.name to-new.Symbol.code (λ _ (s, (o, _)) r (_, (out, _)). Turns old new s.now o.now out.now (as_written r))
 turning_new M = to-new.Met.met
 
-pub turning_old : MeetsJust to_old_ended to-old.Symbol.name to-old.Symbol.code (λ _ (s, (o, _)) r (_, (out, _)). Turns new old s.now o.now out.now r)
+pub turning_old : MeetsJust to_old_ended to-old.Symbol.name to-old.Symbol.code (λ _ (s, (o, _)) r (_, (out, _)). Turns new old s.now o.now out.now (as_written r))
 turning_old M = to-old.Met.met
 
 pub beginning : MeetsJust next_block_ended next-block.Symbol.name next-block.Symbol.code (λ _ (s, (over, _)) r _. Begins s.now over r)

@@ -9,7 +9,7 @@ use lib.Dec.{eqb}
 use lib.ListN.{length, take}
 use Rattle.octets.specs.Numbers.{Octets}
 use Rattle.octets.specs.Outcomes.{puts}
-use Rattle.octets.specs.declared.output.Written.{Written}
+use Rattle.octets.specs.Written.{Written}
 use Rattle.demands.proofs.GivenOutputs.{went_out}
 use Rattle.layouts.specs.declared.form.Form.{Form}
 use Rattle.items.specs.declared.typed.Item.{Item}
@@ -21,9 +21,9 @@ use Rattle.blocks.specs.Boundaries.{Visited}
 use Rattle.blocks.specs.Toggle.{sdps_octet, toggle_bit, other_sdps, with_toggle}
 use Rattle.blocks.specs.Typed.{has}
 use Rattle.blocks.specs.declared.record.Record.{Record}
-use Rattle.blocks.specs.declared.walk.Reading.{Reading}
+use Rattle.blocks.specs.Reading.{Reading}
 use Rattle.blocks.specs.declared.cursor.Cursor.{Cursor}
-use Rattle.blocks.specs.declared.cursor.Step.{Step}
+use Rattle.blocks.specs.Step.{Step}
 use Rattle.blocks.proofs.StepLaws.{step-took}
 use Rattle.blocks.proofs.BoundaryLaws.{read-filled}
 use Rattle.blocks.proofs.SdpsLaws.{step-toggle}

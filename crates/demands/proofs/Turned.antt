@@ -7,7 +7,7 @@ use borrow.Author.Tests.{le-ltb}
 use lib.ListN.{length, take}
 use Rattle.octets.specs.Numbers.{Octets, laid}
 use Rattle.octets.specs.Outcomes.{puts, within, answer_of, output_of, listed_written, outcome_listed}
-use Rattle.octets.specs.declared.output.Written.{Written}
+use Rattle.octets.specs.Written.{Written}
 use Rattle.octets.proofs.Outcomes.{puts-same}
 use Rattle.pages.specs.Pages.{old, new, page_of, rows_in, turn_of, untimed, NoTimes}
 use Rattle.pages.specs.declared.forms.Table.{Table}

@@ -6,12 +6,12 @@ use mathlib.Core.List.{List}
 use Prim.Native.Nat.{ℕ}
 use Rattle.octets.proofs.Unique.{only, only-both}
 use Rattle.blocks.specs.declared.record.Record.{Record}
-use Rattle.blocks.specs.declared.walk.Reading.{Reading}
+use Rattle.blocks.specs.Reading.{Reading}
 use Rattle.blocks.specs.declared.cursor.Cursor.{Cursor}
-use Rattle.blocks.specs.declared.cursor.Step.{Step}
-use Rattle.blocks.specs.declared.cursor.Found.{Found}
-use Rattle.octets.specs.declared.output.Written.{Written}
-use Rattle.ledger.specs.declared.Answer.{Answer}
+use Rattle.blocks.specs.Step.{Step}
+use Rattle.blocks.specs.Found.{Found}
+use Rattle.octets.specs.Written.{Written}
+use Rattle.ledger.specs.Answer.{Answer}
 use Rattle.ledger.specs.declared.Ledger.{Ledger}
 use Rattle.ledger.proofs.CellLaws.{ledger_same}
 use Rattle.feed.specs.declared.block.Next.{Next}

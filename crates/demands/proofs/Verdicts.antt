@@ -13,15 +13,15 @@ use Rattle.octets.proofs.Cases.{test}
 use Rattle.blocks.specs.Typed.{absent}
 use Rattle.blocks.specs.Walks.{read_of}
 use Rattle.blocks.specs.declared.record.Record.{Record}
-use Rattle.blocks.specs.declared.walk.Reading.{Reading}
-use Rattle.blocks.specs.declared.walk.Reading.TheVariants as reading
+use Rattle.blocks.specs.Reading.{Reading}
+use Rattle.blocks.specs.Reading as reading
 use Rattle.rows.specs.Rows.{Row, Entry, add_up}
 use Rattle.rows.specs.Posting.{Report, rows_for, passes, post_rows, refused, counts}
 use Rattle.ledger.specs.Ledgers.{answer, rows_of, keeps_rules}
 use Rattle.ledger.specs.Posts.{post_of}
 use Rattle.blocks.specs.Statistics.{is_statistics}
 use Rattle.ledger.specs.Reports.{entries_of, report_in, report_at, report_by, report_of}
-use Rattle.ledger.specs.declared.Answer.{Answer}
+use Rattle.ledger.specs.Answer.{Answer}
 use Rattle.ledger.specs.declared.Ledger.{Ledger}
 use Rattle.ledger.proofs.RecordNumbers.{record_past, record_taken}
 use Rattle.demands.specs.Operations.{Posts}

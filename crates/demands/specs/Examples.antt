@@ -7,7 +7,7 @@ use Rattle.blocks.specs.declared.record.Record.{Record}
 use Rattle.rows.specs.Rows.{Row}
 use Rattle.ledger.specs.Ledgers.{answer, cells_of}
 use Rattle.ledger.specs.Posts.{post_of}
-use Rattle.ledger.specs.declared.Answer.{Answer}
+use Rattle.ledger.specs.Answer.{Answer}
 use Rattle.octets.specs.Outcomes.{Outcome, no, puts}
 use Rattle.writing.specs.Written.{rewrite_of}
 

@@ -12,8 +12,8 @@ use Rattle.blocks.specs.Faults.{TooShort, Unknown, LenLow, Passes, NoCount, Past
 use Rattle.blocks.specs.Headers.{header_of}
 use Rattle.blocks.specs.Records.{Rec}
 use Rattle.blocks.specs.Steps.{step_of}
-use Rattle.blocks.specs.declared.cursor.Step.{Step}
-use Rattle.blocks.specs.declared.header.Head.{Head}
+use Rattle.blocks.specs.Step.{Step}
+use Rattle.blocks.specs.Head.{Head}
 use Rattle.blocks.specs.declared.record.Record.{Record}
 
 -- a header: 1, 2, 3

@@ -3,19 +3,19 @@ use Rattle.std.specs.Prelude.{Bool, ◌||◌, ◌≡◌, List, [], ℕ, ◌+◌,
 use Rattle.blocks.specs.Walks.{read_of, listed_reading, read_listed}
 use Rattle.blocks.specs.Steps.{step_of, listed_step, step_listed, entry_of, listed_entry, entry_listed}
 use Rattle.blocks.specs.declared.record.Record.{Record}
-use Rattle.blocks.specs.declared.walk.Reading.{Reading}
+use Rattle.blocks.specs.Reading.{Reading}
 use Rattle.blocks.specs.declared.cursor.Cursor.{Cursor}
-use Rattle.blocks.specs.declared.cursor.Step.{Step}
-use Rattle.blocks.specs.declared.cursor.Found.{Found}
+use Rattle.blocks.specs.Step.{Step}
+use Rattle.blocks.specs.Found.{Found}
 use Rattle.octets.specs.Outcomes.{Outcome, within, answer_of, output_of, listed_written, outcome_listed}
 use Rattle.ledger.specs.Ledgers.{answer, cells_of, rules_refusal}
 use Rattle.pages.specs.Pages.{new, load_of, store_of, turn_of}
 use Rattle.pages.specs.declared.forms.Table.{Table}
 use Rattle.ledger.specs.Posts.{post_of}
-use Rattle.ledger.specs.declared.Answer.{Answer}
+use Rattle.ledger.specs.Answer.{Answer}
 use Rattle.ledger.specs.declared.Ledger.{Ledger}
 use Rattle.writing.specs.Written.{write_of, rewrite_of}
-use Rattle.octets.specs.declared.output.Written.{Written}
+use Rattle.octets.specs.Written.{Written}
 use Rattle.feed.specs.Blocks.{next_of, listed_next, next_listed}
 use Rattle.feed.specs.declared.block.Next.{Next}
 use Rattle.doors.specs.Cell.{cell_count, feed_cell_count}

@@ -1,8 +1,8 @@
 -- When two slices hand out the same records, step by step: places aside, and values of absent items and extensions zero.
 use Rattle.std.specs.Prelude.{◌≡◌, List, ℕ, zero, suc}
 use Rattle.blocks.specs.declared.record.Record.{Record}
-use Rattle.blocks.specs.declared.cursor.Step.{Step}
-use Rattle.blocks.specs.declared.cursor.Found.{Found}
+use Rattle.blocks.specs.Step.{Step}
+use Rattle.blocks.specs.Found.{Found}
 use Rattle.writing.specs.Same.{Same}
 use Rattle.demands.specs.Operations.{Steps, Entries}
 

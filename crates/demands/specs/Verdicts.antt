@@ -3,9 +3,9 @@
 use Rattle.std.specs.Prelude.{true, false, List, ◌≡◌, ℕ, ◌≤◌, ◌<◌}
 use Rattle.octets.specs.Refusals.{not_statistics, no_room, life_passes, rules_broken, no_such}
 use Rattle.blocks.specs.Walks.{read_of}
-use Rattle.blocks.specs.declared.cursor.Step.{Step}
+use Rattle.blocks.specs.Step.{Step}
 use Rattle.blocks.specs.declared.record.Record.{Record}
-use Rattle.blocks.specs.declared.walk.Reading.{Reading}
+use Rattle.blocks.specs.Reading.{Reading}
 use Rattle.rows.specs.Rows.{add_up}
 use Rattle.rows.specs.Posting.{rows_for, passes}
 use Rattle.ledger.specs.Ledgers.{rows_of, keeps_rules}

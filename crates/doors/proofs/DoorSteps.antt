@@ -1,14 +1,14 @@
--- What the doors say, case by case: too few cells, cells that take the values, an output with the cell of its length, a feed. Assumes nothing.
-use mathlib.Core.Path.{◌≡◌, refl, sym, ap, ◌∙◌}
-use mathlib.Core.Bool.{Bool, true, false}
-use mathlib.Core.List.{List, [], ◌∷◌}
-use Prim.Native.Nat.{ℕ, ◌≤◌, ◌<◌}
-use borrow.Author.Tests.{lt-ltb, le-ltb, eq-eqb, ne_eqb}
-use lib.ListN.{length, replicate}
+-- What the doors say, case by case: cells that take the values, an output with a cell for its length, a feed. Assumes nothing.
+use mathlib.Core.Path.{◌≡◌, refl, sym}
+use mathlib.Core.Bool.{Bool, false}
+use mathlib.Core.List.{List}
+use Prim.Native.Nat.{ℕ, ◌≤◌}
+use borrow.Author.Tests.{le-ltb, eq-eqb, ne_eqb}
+use lib.ListN.{length, set}
 use Rattle.octets.specs.Numbers.{Octets, laid}
-use Rattle.octets.specs.Outcomes.{Outcome, no, puts, within, output_of, WrittenListed, outcome_listed}
-use Rattle.octets.specs.Refusals.{output_too_short}
-use Rattle.octets.specs.declared.output.Written.{Written}
+use Rattle.octets.specs.Outcomes.{Outcome, no, puts, within, output_of, listed_written}
+use Rattle.octets.specs.Written.{Written}
+use Rattle.octets.proofs.Laying.{laid_one}
 use Rattle.octets.proofs.Outcomes.{Says}
 use Rattle.blocks.specs.declared.record.Record.{Record}
 use Rattle.writing.specs.Written.{write_of}
@@ -17,20 +17,14 @@ use Rattle.pages.specs.Pages.{new, load_of, store_of}
 use Rattle.pages.specs.declared.forms.Form.{Form}
 use Rattle.ledger.specs.Posts.{post_of}
 use Rattle.ledger.specs.Steps.{Kept}
-use Rattle.ledger.specs.declared.Answer.{Answer}
+use Rattle.ledger.specs.Answer.{Answer}
 use Rattle.pages.proofs.PageTheorems.{loaded-good}
 use Rattle.feed.specs.Runs.{state, Run, run_over, zeros, done_of}
 use Rattle.feed.specs.declared.run.Done.{Done}
-use Rattle.doors.specs.Cell.{feed_cell_count}
 use Rattle.doors.specs.Cells.{record_of, cells_refusal}
-use Rattle.doors.specs.Answers.{is_few, refusal_or, cells_or, put_refusal, put_output, cells_written, page_posted}
-use Rattle.doors.specs.Feeds.{feed_run, page_fed, done_cells, feed_cells, fed_by, fed_of}
-use Rattle.doors.specs.declared.feeds.Fed.{Fed}
-use Rattle.doors.specs.declared.feeds.Fed.TheVariants as fed
-
-pub too_few : (k : ℕ) (l : List ℕ) (n : ℕ) (values : List ℕ) → length l < k
-    → (output_too_short ≡ refusal_or (is_few k l) n) × (l ≡ cells_or (is_few k l) l values)
-too_few k l n values h = rw (lt-ltb (length l) k h) (refl, refl)
+use Rattle.doors.specs.Answers.{is_few, refusal_or, cells_or, put_refusal, put_output, put_length, cells_written, page_posted}
+use Rattle.doors.specs.Feeds.{feed_run, page_fed, fed_by, fed_of}
+use Rattle.doors.specs.Fed.{Fed}
 
 -- an answer in its cases: what is listed of it goes into the cells
 module _ {A B : Type 0} (listed : A → B) (refusal : B → ℕ) (values : B → List ℕ) where
@@ -40,28 +34,21 @@ module _ {A B : Type 0} (listed : A → B) (refusal : B → ℕ) (values : B →
       let same = rw e at is in
       rw (le-ltb (length l) k h, ← same) (refl, done)
 
--- an output lent with cells: too few of these, or the values go into them
-module _ (few : Bool) (out cells : List ℕ) (x : Outcome) (values : List ℕ) where
-  abbrev Puts : ℕ → List ℕ → List ℕ → Type 0
-  Puts r out' cells' =
+-- an output lent with a cell for the length: what was said of the output, and the length put into the cell
+module _ (out size : List ℕ) (x : Outcome) (some : 1 ≤ length size) {w : Written} {r n : ℕ} {out' : List ℕ}
+    (says : Says out out' w (within (length out) x)) (put : (r ≡ (listed_written w).refusal) × (n ≡ (listed_written w).length)) where
+  abbrev Puts : Bool → Type 0
+  Puts few =
       let y = within (length out) x in
-      (r ≡ put_refusal few y) × (out' ≡ put_output few out y) × (cells' ≡ cells_or few cells values)
+      (r ≡ put_refusal few y) × (out' ≡ put_output few out y) × (set size 0 n ≡ put_length few size y)
 
-  pub put-few : few ≡ true → Puts output_too_short out cells
-  put-few e = rw e (refl, refl, refl)
+  pub put_all : (few : Bool) → few ≡ false → Puts few
+  put_all few e =
+      let said = says.2 in
+      rw (e, put.0, put.1, said) (refl, says.0, sym (laid_one size 0 _ some))
 
-  put_in : few ≡ false → {r : ℕ} {out' cells' : List ℕ} → r ≡ (outcome_listed (within (length out) x)).refusal
-      → out' ≡ output_of out (within (length out) x) → cells' ≡ laid cells 0 values → Puts r out' cells'
-  put_in e n o c = rw e (n, o, c)
-
--- the cell of the length: y is what was put out, w what was said of it
-pub put_all : (few : Bool) (out size : List ℕ) (x : Outcome) → few ≡ false → (y : Outcome) → x ≡ y → {w : WrittenListed} {r : ℕ} {out' size' : List ℕ}
-    → out' ≡ output_of out (within (length out) y) → w ≡ outcome_listed (within (length out) y) → (r ≡ w.refusal) × (size' ≡ laid size 0 (w.length ∷ []))
-    → Puts few out size x ((outcome_listed (within (length out) x)).length ∷ []) r out' size'
-put_all few out size x e y is o said put =
-    rw is
-    (put_in few out size y _ e (put.0 ∙ ap (λ (w : WrittenListed). w.refusal) said) o
-    (put.1 ∙ ap (λ (w : WrittenListed). laid size 0 (w.length ∷ [])) said))
+  pub put_one : Puts (is_few 1 size)
+  put_one = put_all _ (le-ltb (length size) 1 some)
 
 -- the cells are refused, or their record is written
 module _ (cs s : List ℕ) {n : ℕ} (judged : n ≡ cells_refusal cs) where
@@ -111,27 +98,7 @@ module _ (page s : List ℕ) (over : Bool) (l : List ℕ) {a : Answer} (loaded :
   feed-stored h ran w says told =
       rw (← loaded, eq-eqb a.refusal 0 h, ← ran.0, ← told, ← ran.1, ← says.1) (says.0, refl)
 
--- what became of a feed, in its cases: the refusal, and what goes into the cells
-abbrev fed_refusal : Fed → ℕ
-fed_refusal (fed.Stored size d) = 0
-fed_refusal (fed.Refused n) = n
-
-abbrev fed_cells : Fed → List ℕ
-fed_cells (fed.Stored size d) = done_cells size d
-fed_cells (fed.Refused n) = replicate feed_cell_count 0
-
-fed-refusal : (x : Outcome) (r : Run) → fed_refusal (fed_of x r) ≡ (outcome_listed x).refusal
-fed-refusal (no n) r = refl
-fed-refusal (puts xs) r = refl
-
-fed_cells_lem : (x : Outcome) (r : Run) → fed_cells (fed_of x r) ≡ feed_cells x r
-fed_cells_lem (no n) r = refl
-fed_cells_lem (puts xs) r = refl
-
-pub put-fed : (few : Bool) (out cells : List ℕ) (x : Outcome) (r : Run) → few ≡ false → (f : Fed) {g : Fed} → g ≡ fed_of (within (length out) x) r → g ≡ f
-    → {out' cells' : List ℕ} → out' ≡ output_of out (within (length out) x) → cells' ≡ laid cells 0 (fed_cells f)
-    → Puts few out cells x (feed_cells (within (length out) x) r) (fed_refusal f) out' cells'
-put-fed few out cells x r e f said told o c =
-    let y = within (length out) x in
-    let is : f ≡ fed_of y r = sym told ∙ said in
-    put_in few out cells x _ e (ap fed_refusal is ∙ fed-refusal y r) o (c ∙ ap (laid cells 0) (ap fed_cells is ∙ fed_cells_lem y r))
+-- what is handed on as a refusal is what there was to put out
+pub fed-refused : (x : Outcome) (r : Run) {n : ℕ} → Fed.Refused n ≡ fed_of x r → x ≡ no n
+fed-refused (no m) r e = cc
+fed-refused (puts xs) r e = cc

@@ -9,7 +9,7 @@ use Rattle.blocks.specs.Steps.{StepListed, EntryListed}
 use Rattle.writing.specs.Written.{write_of}
 use Rattle.pages.specs.Pages.{new, load_of, store_of}
 use Rattle.ledger.specs.Posts.{post_of}
-use Rattle.ledger.specs.declared.Answer.{Answer}
+use Rattle.ledger.specs.Answer.{Answer}
 use Rattle.doors.specs.Cells.{record_cells, record_of, cells_refusal}
 
 -- WEAR_VERSION

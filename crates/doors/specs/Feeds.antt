@@ -2,8 +2,8 @@
 use Rattle.std.specs.Prelude.{Bool, List, [], ◌∷◌, ℕ, eqb, length, replicate}
 use Rattle.octets.specs.Choice.{pick}
 use Rattle.octets.specs.Outcomes.{Outcome, no, puts, answer_of}
-use Rattle.octets.specs.declared.output.Written.{Written}
-use Rattle.octets.specs.declared.output.Written.TheVariants as written
+use Rattle.octets.specs.Written.{Written}
+use Rattle.octets.specs.Written as written
 use Rattle.ledger.specs.Ledgers.{rows_of, cells_of}
 use Rattle.pages.specs.Pages.{new, load_of, store_of}
 use Rattle.feed.specs.Runs.{state, Run, run_over, zeros, done_of}
@@ -11,7 +11,7 @@ use Rattle.feed.specs.declared.run.Done.{Done}
 use Rattle.feed.specs.declared.run.Ending.{Ending}
 use Rattle.feed.specs.declared.run.Ending.TheVariants as ending
 use Rattle.doors.specs.Cell.{feed_cell_count}
-use Rattle.doors.specs.declared.feeds.Fed.{Fed}
+use Rattle.doors.specs.Fed.{Fed}
 
 -- whether the input ends with these octets: `more` is 0 where it does, and any other number where more may come
 abbrev pub is_over : ℕ → Bool

@@ -2,3 +2,4 @@ pub mod Cell
 pub mod Cells
 pub mod Answers
 pub mod Feeds
+pub mod Fed

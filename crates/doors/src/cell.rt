@@ -1,4 +1,5 @@
-// The cells of a record and those of a feed: the enums of include/wear.h, by their names. First a record's.
+// The cells of a record and those of a feed: the enums of include/wear.h, by their names. They are numbers, as an enum's variants would be
+// cast at each use. First a record's.
 pub const CATEGORY: usize = 0;
 
 pub const MARKS: usize = CATEGORY + 1;

@@ -4,6 +4,8 @@
 // caller lends, and where these are too few the answer is 12 before all else.
 ghost use Rattle.std.specs.Prelude.{◌||◌, [], ◌∷◌, ◌≡◌, ◌+◌, ◌≤◌, length};
 ghost use Rattle.octets.specs.Numbers.{laid};
+ghost use Rattle.octets.specs.Refusals.{number_of};
+ghost use Rattle.octets.specs.Written.{as_written};
 ghost use Rattle.octets.specs.Outcomes.{within, answer_of, output_of, listed_written, outcome_listed};
 ghost use Rattle.blocks.specs.Walks.{read_listed};
 ghost use Rattle.blocks.specs.Steps.{step_listed, entry_listed};
@@ -17,34 +19,42 @@ pub mod cell;
 pub mod cells;
 pub mod feeds;
 
-use crate::cells::{cells_refusal, record_cells, record_of};
-use crate::feeds::{Fed, done_cells, fed_page};
-use blocks::cursor::{Cursor, Found, Step, entry};
-use blocks::walk::{Reading, read};
+use crate::cells::{RecordCells, record_cells};
+use crate::feeds::fed_page;
+use blocks::cursor::{Cursor, Found, entry};
+use blocks::walk::read;
 use ledger::post::post;
-use octets::output::Written;
-use octets::refusal;
+use octets::refusal::Refusal;
 use pages::forms::Form;
 use pages::turning::turn;
 use pages::{load, store};
-use writing::block::{rewrite, write};
+use writing::block::rewrite;
 
 // WEAR_VERSION of include/wear.h.
 pub const VERSION: u32 = 3;
 
+// The answer where nothing is refused, and where too few cells are lent.
+const ACCEPTED: u32 = 0;
+
+const TOO_FEW_CELLS: u32 = Refusal::OutputTooShort as u32;
+
 // The cells of a step: the offset, the next start, and the record's.
 const STEP_CELLS: usize = 2 + cell::CELLS;
 
-// Values into cells from one on.
+// Document 01's number of a refusal, as C reads it.
+fn number(refusal: Refusal) -> u32
+    ensures { result ≡ number_of refusal }
+{
+    u8::from(refusal) as u32
+}
+
+// Values into cells from one on. A store into what `first_chunk_mut` gives is no plainer: each door's proof is then written by hand.
+#[tactic(auto, unfolding(octets::specs::Numbers::laid))]
 fn lay(cells: &mut [u64], at: usize, values: &[u64])
     requires { at + length values.now ≤ length cells.old }
     ensures { cells.new ≡ laid cells.old at values.now }
 {
-    let mut i: usize = 0;
-    while i < values.len() {
-        cells[at + i] = values[i];
-        i += 1;
-    }
+    cells[at..at + values.len()].copy_from_slice(values);
 }
 
 // The version of these doors, to be compared with the header's.
@@ -60,19 +70,16 @@ pub fn wear_read(s: &[u8], cells: &mut [u64]) -> u32
         × (cells.new ≡ cells_or (is_few 3 cells.old) cells.old (read_cells (read_listed s.now))) }
 {
     if cells.len() < 3 {
-        return refusal::OUTPUT_TOO_SHORT as u32;
+        return TOO_FEW_CELLS;
     }
-    let reading = read(s);
-    match reading {
-        Reading::Accepted(len, count) => {
-            let values = [0, len as u64, count as u64];
-            lay(cells, 0, &values);
-            refusal::ACCEPTED as u32
+    match read(s) {
+        Ok(reading) => {
+            lay(cells, 0, &[0, reading.len as u64, reading.count as u64]);
+            ACCEPTED
         }
-        Reading::Refused(n, at) => {
-            let values = [at as u64, 0, 0];
-            lay(cells, 0, &values);
-            n as u32
+        Err(fault) => {
+            lay(cells, 0, &[fault.at as u64, 0, 0]);
+            number(fault.refusal)
         }
     }
 }
@@ -83,22 +90,20 @@ pub fn wear_step(s: &[u8], start: usize, cells: &mut [u64]) -> u32
         × (cells.new ≡ cells_or (is_few (2 + cell_count) cells.old) cells.old (step_cells (step_listed s.now start))) }
 {
     if cells.len() < STEP_CELLS {
-        return refusal::OUTPUT_TOO_SHORT as u32;
+        return TOO_FEW_CELLS;
     }
     let cursor = Cursor { at: start };
-    let step = cursor.step(s);
-    match step {
-        Step::Taken(record, next) => {
-            let values = [0, next.at as u64];
-            lay(cells, 0, &values);
-            lay(cells, 2, &record_cells(record));
-            refusal::ACCEPTED as u32
+    match cursor.step(s) {
+        Ok(step) => {
+            lay(cells, 0, &[0, step.next.at as u64]);
+            lay(cells, 2, &record_cells(step.taken));
+            ACCEPTED
         }
-        Step::Refused(n, at) => {
+        Err(fault) => {
             let mut values = [0u64; STEP_CELLS];
-            values[0] = at as u64;
+            values[0] = fault.at as u64;
             lay(cells, 0, &values);
-            n as u32
+            number(fault.refusal)
         }
     }
 }
@@ -109,41 +114,39 @@ pub fn wear_entry(s: &[u8], start: usize, k: usize, cells: &mut [u64]) -> u32
         × (cells.new ≡ cells_or (is_few 4 cells.old) cells.old (entry_cells (entry_listed s.now start k))) }
 {
     if cells.len() < 4 {
-        return refusal::OUTPUT_TOO_SHORT as u32;
+        return TOO_FEW_CELLS;
     }
-    let found = entry(s, start, k);
-    match found {
-        Found::Counter(c) => {
+    match entry(s, start, k) {
+        Ok(Found::Counter(c)) => {
             let values = [0, c.typ as u64, c.reference as u64, c.count as u64];
             lay(cells, 0, &values);
-            refusal::ACCEPTED as u32
+            ACCEPTED
         }
-        Found::Version(v) => {
+        Ok(Found::Version(v)) => {
             let values = [0, v.category as u64, v.main as u64, v.sub as u64];
             lay(cells, 0, &values);
-            refusal::ACCEPTED as u32
+            ACCEPTED
         }
-        Found::Refused(n, at) => {
-            let values = [at as u64, 0, 0, 0];
+        Err(fault) => {
+            let values = [fault.at as u64, 0, 0, 0];
             lay(cells, 0, &values);
-            n as u32
+            number(fault.refusal)
         }
     }
 }
 
-// The refusal of what was put out, and its length into the first cell. Only where there is one.
-fn put_out(written: Written, size: &mut [u64]) -> u32
-    requires { 1 ≤ length size.old }
-    ensures { (result ≡ (listed_written written).refusal) × (size.new ≡ laid size.old 0 ((listed_written written).length ∷ [])) }
+// The refusal of what was put out, and its length into a cell.
+fn put_out(written: Result<usize, Refusal>, size: &mut u64) -> u32
+    ensures { (result ≡ (listed_written (as_written written)).refusal) × (size.new ≡ (listed_written (as_written written)).length) }
 {
     match written {
-        Written::Octets(k) => {
-            size[0] = k as u64;
-            refusal::ACCEPTED as u32
+        Ok(k) => {
+            *size = k as u64;
+            ACCEPTED
         }
-        Written::Refused(n) => {
-            size[0] = 0;
-            n as u32
+        Err(refusal) => {
+            *size = 0;
+            number(refusal)
         }
     }
 }
@@ -155,16 +158,13 @@ pub fn wear_write(cells: &[u64], source: &[u8], out: &mut [u8], size: &mut [u64]
         × (size.new ≡ put_length (is_few cell_count cells.now || is_few 1 size.old) size.old (within (length out.old) (cells_written cells.now source.now))) }
 {
     if cells.len() < cell::CELLS {
-        return refusal::OUTPUT_TOO_SHORT as u32;
+        return TOO_FEW_CELLS;
     }
-    if size.len() < 1 {
-        return refusal::OUTPUT_TOO_SHORT as u32;
-    }
-    let n = cells_refusal(cells);
-    if n != refusal::ACCEPTED {
-        return put_out(Written::Refused(n), size);
-    }
-    put_out(write(record_of(cells), source, out), size)
+    let Some(size) = size.first_mut() else {
+        return TOO_FEW_CELLS;
+    };
+    let record = RecordCells { cells };
+    put_out(record.write(source, out), size)
 }
 
 // A block in normal form.
@@ -173,25 +173,25 @@ pub fn wear_rewrite(s: &[u8], out: &mut [u8], size: &mut [u64]) -> u32
         × (out.new ≡ put_output (is_few 1 size.old) out.old (within (length out.old) (rewrite_of s.now)))
         × (size.new ≡ put_length (is_few 1 size.old) size.old (within (length out.old) (rewrite_of s.now))) }
 {
-    if size.len() < 1 {
-        return refusal::OUTPUT_TOO_SHORT as u32;
-    }
+    let Some(size) = size.first_mut() else {
+        return TOO_FEW_CELLS;
+    };
     put_out(rewrite(s, out), size)
 }
 
-// A page of one form as a page of the other.
+// A page of one form as a page of the other. Each door that puts out begins with its 12, which comes before all else.
 fn turned_page(page: &[u8], from: Form, out: &mut [u8], to: Form, size: &mut [u64]) -> u32
     ensures { (result ≡ put_refusal (is_few 1 size.old) (within (length out.old) (turn_of (tables_of from) (tables_of to) page.now)))
         × (out.new ≡ put_output (is_few 1 size.old) out.old (within (length out.old) (turn_of (tables_of from) (tables_of to) page.now)))
         × (size.new ≡ put_length (is_few 1 size.old) size.old (within (length out.old) (turn_of (tables_of from) (tables_of to) page.now))) }
 {
-    if size.len() < 1 {
-        return refusal::OUTPUT_TOO_SHORT as u32;
-    }
+    let Some(size) = size.first_mut() else {
+        return TOO_FEW_CELLS;
+    };
     put_out(turn(page, from, out, to), size)
 }
 
-// An old page as a new one with all times unknown.
+// An old page as a new one with all times unknown. This and the next are two, as C calls them by their names.
 pub fn wear_page_to_new(page: &[u8], out: &mut [u8], size: &mut [u64]) -> u32
     ensures { (result ≡ put_refusal (is_few 1 size.old) (within (length out.old) (turn_of old new page.now)))
         × (out.new ≡ put_output (is_few 1 size.old) out.old (within (length out.old) (turn_of old new page.now)))
@@ -210,22 +210,16 @@ pub fn wear_page_to_old(page: &[u8], out: &mut [u8], size: &mut [u64]) -> u32
 }
 
 // A record of a block posted to the ledger of a page, and the ledger stored: load's refusal, post's, store's.
-fn posted_page(page: &[u8], s: &[u8], k: usize, out: &mut [u8]) -> Written
+fn posted_page(page: &[u8], s: &[u8], k: usize, out: &mut [u8]) -> Result<usize, Refusal>
     ensures { (out.new ≡ output_of out.old (within (length out.old) (page_posted page.now s.now k)))
-        × (result ≡ answer_of (within (length out.old) (page_posted page.now s.now k)))
-        × (listed_written result ≡ outcome_listed (within (length out.old) (page_posted page.now s.now k))) }
+        × (as_written result ≡ answer_of (within (length out.old) (page_posted page.now s.now k)))
+        × (listed_written (as_written result) ≡ outcome_listed (within (length out.old) (page_posted page.now s.now k))) }
 {
     let loaded = load(page);
-    if loaded.refusal != refusal::ACCEPTED {
-        return Written::Refused(loaded.refusal);
-    }
-    let before = loaded.ledger;
-    let posted = post(before, s, k);
-    if posted.refusal != refusal::ACCEPTED {
-        return Written::Refused(posted.refusal);
-    }
-    let after = posted.ledger;
-    store(after, out)
+    loaded.answer?;
+    let posted = post(loaded.ledger, s, k);
+    posted.answer?;
+    store(posted.ledger, out)
 }
 
 // Load, post, store: the ledger goes in and out as a page.
@@ -234,9 +228,9 @@ pub fn wear_post(page: &[u8], s: &[u8], k: usize, out: &mut [u8], size: &mut [u6
         × (out.new ≡ put_output (is_few 1 size.old) out.old (within (length out.old) (page_posted page.now s.now k)))
         × (size.new ≡ put_length (is_few 1 size.old) size.old (within (length out.old) (page_posted page.now s.now k))) }
 {
-    if size.len() < 1 {
-        return refusal::OUTPUT_TOO_SHORT as u32;
-    }
+    let Some(size) = size.first_mut() else {
+        return TOO_FEW_CELLS;
+    };
     put_out(posted_page(page, s, k, out), size)
 }
 
@@ -247,17 +241,16 @@ pub fn wear_feed(page: &[u8], s: &[u8], more: u32, out: &mut [u8], cells: &mut [
         × (cells.new ≡ cells_or (is_few feed_cell_count cells.old) cells.old (feed_cells (within (length out.old) (page_fed page.now s.now (is_over more))) (feed_run page.now s.now (is_over more)))) }
 {
     if cells.len() < cell::FEED_CELLS {
-        return refusal::OUTPUT_TOO_SHORT as u32;
+        return TOO_FEW_CELLS;
     }
-    let fed = fed_page(page, s, more == 0, out);
-    match fed {
-        Fed::Stored(size, done) => {
-            lay(cells, 0, &done_cells(size, done));
-            refusal::ACCEPTED as u32
+    match fed_page(page, s, more == 0, out) {
+        Ok(fed) => {
+            lay(cells, 0, &fed.cells());
+            ACCEPTED
         }
-        Fed::Refused(n) => {
+        Err(refusal) => {
             lay(cells, 0, &[0u64; cell::FEED_CELLS]);
-            n as u32
+            number(refusal)
         }
     }
 }

@@ -1,6 +1,7 @@
 #![tactic(auto)]
 
-// The doors as a C program links them: each export calls the function of the same name in `doors`, and promises the same.
+// The doors as a C program links them: each export calls the function of the same name in `doors`, and promises the same. C links functions by name, so
+// each stands here once more.
 ghost use Rattle.std.specs.Prelude.{◌||◌, [], ◌∷◌, ◌≡◌, ◌+◌, ◌≤◌, length};
 ghost use Rattle.octets.specs.Numbers.{laid};
 ghost use Rattle.octets.specs.Outcomes.{within, answer_of, output_of, listed_written, outcome_listed};

@@ -10,9 +10,9 @@ use Rattle.blocks.specs.Steps.{step_of}
 use Rattle.blocks.specs.Typed.{typed_rec}
 use Rattle.blocks.specs.Walks.{read_of}
 use Rattle.blocks.specs.declared.cursor.Cursor.{Cursor}
-use Rattle.blocks.specs.declared.cursor.Step.{Step}
+use Rattle.blocks.specs.Step.{Step}
 use Rattle.blocks.specs.declared.record.Record.{Record}
-use Rattle.blocks.specs.declared.walk.Reading.{Reading}
+use Rattle.blocks.specs.Reading.{Reading}
 use Rattle.blocks.proofs.BlockLaws.{category-cat}
 use Rattle.blocks.proofs.BoundaryLaws.{visited}
 use Rattle.blocks.proofs.HeaderLaws.{Headed, header-good}

@@ -14,22 +14,21 @@ use Rattle.blocks.specs.Statistics.{is_statistics, statistics_of, seen_of}
 use Rattle.blocks.specs.Steps.{take_of, step_of}
 use Rattle.blocks.specs.Walks.{read_of}
 use Rattle.blocks.specs.declared.cursor.Cursor.{Cursor}
-use Rattle.blocks.specs.declared.cursor.Step.{Step}
+use Rattle.blocks.specs.Step.{Step}
 use Rattle.blocks.specs.declared.record.Record.{Record}
-use Rattle.blocks.specs.declared.statistics.Seen.{Seen}
+use Rattle.blocks.specs.Seen.{Seen}
 use Rattle.blocks.specs.declared.statistics.Statistics.{Statistics}
-use Rattle.blocks.specs.declared.walk.Reading.{Reading}
+use Rattle.blocks.specs.Reading.{Reading}
 use Rattle.blocks.proofs.SeenLaws.{Sees}
 use Rattle.blocks.proofs.TakenLaws.{accepted-step, accepted-forward}
 use Rattle.rows.specs.Rows.{Row, add_up}
-use Rattle.rows.specs.Posting.{Report, refused, counts, entries, post_rows, answers, after}
+use Rattle.rows.specs.Posting.{Report, refused, counts, post_rows, answers, after}
 use Rattle.ledger.specs.Ledgers.{answer, rows_of, cells_of}
 use Rattle.ledger.specs.Posts.{posted_to}
 use Rattle.ledger.specs.Reports.{entries_at, report_in}
-use Rattle.ledger.specs.Steps.{Kept, Reported, Lies}
-use Rattle.ledger.specs.declared.Answer.{Answer}
-use Rattle.ledger.proofs.CellLaws.{rows_back, kept_of}
-use Rattle.ledger.proofs.NarrowLaws.{Fit, record_fits, post_ruled}
+use Rattle.ledger.specs.Steps.{Kept, Reported}
+use Rattle.ledger.specs.Answer.{Answer}
+use Rattle.ledger.proofs.CellLaws.{rows_back}
 use Rattle.ledger.proofs.PostSteps.{post_statistics}
 use Rattle.ledger.proofs.ReportLaws.{lies, report-other, entries_lie}
 use Rattle.feed.specs.Blocks.{reports_of}
@@ -37,7 +36,7 @@ use Rattle.feed.specs.Runs.{State, state}
 use Rattle.feed.specs.Totals.{answered_one, block_done, accepted_one}
 use Rattle.feed.specs.declared.totals.Totals.{Totals}
 use Rattle.feed.proofs.BlockReports.{taken-category, block-visited}
-use Rattle.feed.proofs.TotalLaws.{Small, answered-small, answered-other, answered-more, answered-none}
+use Rattle.feed.proofs.TotalLaws.{Small, answered-small, uncounted, answered-more, answered-none}
 
 -- Reports posted to rows and counted, to the end of a block
 
@@ -56,18 +55,13 @@ ended-more rows t x rs i =
 ended-skip : (rows : List Row) (t : Totals) → Small t → (rs : List Report) → ended rows t rs ≡ ended rows t (refused not_statistics ∷ rs)
 unfolding post_rows
 ended-skip rows t small rs =
-    ap (λ (to : Totals). ended rows to rs) (answered-other t not_statistics small (λ z. omega arith) (λ z. omega arith) (λ z. omega arith))
-    ∙ ended-more rows t (refused not_statistics) rs
+    ap (λ (to : Totals). ended rows to rs) (uncounted t small) ∙ ended-more rows t (refused not_statistics) rs
 
 -- What a report posted to cells leaves
 module _ (l : List ℕ) (x : Report) (r : ℕ) (m : List ℕ) (e : answer r m ≡ posted_to l x) where
   -- its rows
   post_rows_lem : rows_of m ≡ (post_rows add_up (rows_of l) x).rows
   post_rows_lem = ap (λ (a : Answer). rows_of a.ledger.cells) e ∙ rows_back (post_rows add_up (rows_of l) x).rows
-
-  -- cells that keep the rules
-  post_keeps : Kept l → Fit (entries x) → Kept m
-  post_keeps k f = subst (λ (a : Answer). Kept a.ledger.cells) (sym e) (kept_of _ (post_ruled (rows_of l) x (k.good, k.narrow) f))
 
   -- and the others to be posted
   post_ended : (t : Totals) (rs : List Report) → ended (rows_of m) (answered_one t r) rs ≡ ended (rows_of l) t (x ∷ rs)
@@ -121,7 +115,6 @@ was-report false r q x next e = absurd (let z : ◌≡◌ {A = ℕ} 0 1 = cc in 
 pub record Posting (s : List ℕ) (len : ℕ) (l₀ : List ℕ) (t₀ : Totals) (l : List ℕ) (t : Totals) (at : ℕ) : Type 0 where
   pub low : 3 ≤ at
   pub small : Small t
-  pub kept : Kept l
   pub left : List Record
   pub visits : Visited s at left len
   pub is : ended (rows_of l) t (map (report_in s) left) ≡ ended (rows_of l₀) t₀ (reports_of s)
@@ -141,10 +134,10 @@ first s len at (t ∷ ts) (q, e, v) l = record { one = t; next = q; others = ts;
 
 module _ (s : List ℕ) (len n : ℕ) (o : Octets s) (h : read_of s ≡ Reading.Accepted len n) where
   -- all of them
-  pub posting-none : (l : List ℕ) (t : Totals) → Kept l → Small t → Posting s len l t l t 3
-  posting-none l t k small =
+  pub posting-none : (l : List ℕ) (t : Totals) → Small t → Posting s len l t l t 3
+  posting-none l t small =
       let b = block-visited s len n o h in
-      record { low = omega arith; small = small; kept = k; left = b.0; visits = b.1; is = ap (ended (rows_of l) t) (sym b.3) }
+      record { low = omega arith; small = small; left = b.0; visits = b.1; is = ap (ended (rows_of l) t) (sym b.3) }
 
   -- none, at LEN
   none_left : (ts : List Record) (at : ℕ) → Visited s at ts len → len ≤ at → ts ≡ []
@@ -152,9 +145,9 @@ module _ (s : List ℕ) (len n : ℕ) (o : Octets s) (h : read_of s ≡ Reading.
   none_left (t ∷ ts) at (q, e, v) l = absurd (omega (arith, (accepted-forward s len n o h at t (record { at = q }) e).0))
 
   module _ (l₀ : List ℕ) (t₀ : Totals) (l : List ℕ) (t : Totals) (at : ℕ) (w : Posting s len l₀ t₀ l t at) where
-    pub posting-end : len ≤ at → let all = ended (rows_of l₀) t₀ (reports_of s) in (l ≡ cells_of all.rows) × (block_done t ≡ all.totals)
-    posting-end e =
-        all-posted l t w.kept w.small (ended (rows_of l₀) t₀ (reports_of s))
+    pub posting-end : Kept l → len ≤ at → let all = ended (rows_of l₀) t₀ (reports_of s) in (l ≡ cells_of all.rows) × (block_done t ≡ all.totals)
+    posting-end k e =
+        all-posted l t k w.small (ended (rows_of l₀) t₀ (reports_of s))
         (ap (λ (us : List Record). ended (rows_of l) t (map (report_in s) us)) (sym (none_left w.left at w.visits e)) ∙ w.is)
 
     -- Below LEN a step takes the first of them, and of it something is seen
@@ -187,7 +180,6 @@ module _ (s : List ℕ) (len n : ℕ) (o : Octets s) (h : read_of s ≡ Reading.
             subst (λ q. Posting s len l₀ t₀ l t q) first-other.1 (record {
               low = omega (arith, w.low, forward);
               small = w.small;
-              kept = w.kept;
               left = f.others;
               visits = f.visits;
               is = ended-skip (rows_of l) t w.small (map (report_in s) f.others)
@@ -202,22 +194,18 @@ module _ (s : List ℕ) (len n : ℕ) (o : Octets s) (h : read_of s ≡ Reading.
         pub report-forward : at < next
         report-forward = subst (λ q. at < q) first-report.2 forward
 
-        -- it may be posted
-        lies-there : Lies s f.one
-        lies-there = lies s at f.one (record { at = f.next }) o (sym f.taken)
-
-        pub report_asks : Kept l × Reported s r
-        report_asks = (w.kept, entries_lie s f.one first-report.0 r first-report.1 lies-there)
+        -- its entries lie in the octets
+        pub report-lies : Reported s r
+        report-lies = entries_lie s f.one first-report.0 r first-report.1 (lies s at f.one (record { at = f.next }) o (sym f.taken))
 
         -- the others, once it is
-        pub posting-report : (a : ℕ) (m : List ℕ) → answer a m ≡ posted_to l (counts (entries_at s r))
+        pub posting-report : Kept l → (a : ℕ) (m : List ℕ) → answer a m ≡ posted_to l (counts (entries_at s r))
             → (to : Totals) → to ≡ answered_one t a → Posting s len l₀ t₀ m to next
-        posting-report a m posted to counted =
-            let p = post_statistics l w.kept s f.one first-report.0 r first-report.1 (answer a m) posted in
+        posting-report k a m posted to counted =
+            let p = post_statistics l k s f.one first-report.0 r first-report.1 (answer a m) posted in
             rw counted (subst (λ q. Posting s len l₀ t₀ m (answered_one t a) q) first-report.2 (record {
               low = omega (arith, w.low, forward);
               small = answered-small t a;
-              kept = post_keeps l (report_in s f.one) a m p w.kept (record_fits s f.one lies-there);
               left = f.others;
               visits = f.visits;
               is = post_ended l (report_in s f.one) a m p t (map (report_in s) f.others) ∙ is-left;

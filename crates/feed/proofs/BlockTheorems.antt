@@ -7,7 +7,7 @@ use Rattle.octets.specs.Numbers.{Octets}
 use Rattle.blocks.specs.Boundaries.{Visited}
 use Rattle.blocks.specs.Walks.{read_of}
 use Rattle.blocks.specs.declared.record.Record.{Record}
-use Rattle.blocks.specs.declared.walk.Reading.{Reading}
+use Rattle.blocks.specs.Reading.{Reading}
 use Rattle.rows.specs.Order.{upto}
 use Rattle.rows.specs.Posting.{Report}
 use Rattle.ledger.specs.Reports.{report_in, report_at, step_at, report_of}

@@ -15,6 +15,7 @@ use Rattle.feed.specs.Blocks.{next_of, reports_of}
 use Rattle.feed.specs.Runs.{state, Run, left, behind, go_on, run_from, run_over, zeros}
 use Rattle.feed.specs.Totals.{up, refused_one, accepted_one}
 use Rattle.feed.specs.declared.run.Ending.{Ending}
+use Rattle.feed.specs.declared.run.Ending.TheVariants as ending
 use Rattle.feed.specs.declared.block.Next.{Next}
 use Rattle.feed.specs.declared.block.Next.TheVariants as next
 use Rattle.feed.specs.declared.totals.Totals.{Totals}
@@ -100,9 +101,9 @@ counted-from (suc n) s over rows t f = go (next_of s over) (λ len. counted-from
         → run_from n (drop len s) over (state rows t) ≡ counting t (run_from n (drop len s) over (state rows zeros)))
         → go_on s (state rows t) (λ len to. run_from n (drop len s) over to) x
         ≡ counting t (go_on s (state rows zeros) (λ len to. run_from n (drop len s) over to) x)
-    go next.Ended ih = ap (λ u. left (state rows u) 0 Ending.Ended) (adds_none t f)
-    go next.Stopped ih = ap (λ u. left (state rows u) 0 Ending.Stopped) (adds-refused t f)
-    go next.More ih = ap (λ u. left (state rows u) 0 Ending.More) (adds_none t f)
+    go (next.Left ending.Ended) ih = ap (λ u. left (state rows u) 0 Ending.Ended) (adds_none t f)
+    go (next.Left ending.Stopped) ih = ap (λ u. left (state rows u) 0 Ending.Stopped) (adds-refused t f)
+    go (next.Left ending.More) ih = ap (λ u. left (state rows u) 0 Ending.More) (adds_none t f)
     go (next.Skipped len) ih =
         ap (behind len)
         (on-behind (λ u. run_from n (drop len s) over (state rows u)) (ih len rows) t refused_one (totals 0 1 0 0) adds-refused f)

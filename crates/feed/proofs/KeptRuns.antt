@@ -7,8 +7,8 @@ use lib.ListN.{drop}
 use Rattle.octets.specs.Numbers.{Octets}
 use Rattle.octets.proofs.Parts.{Octets-drop}
 use Rattle.blocks.specs.Steps.{step_of}
-use Rattle.blocks.specs.declared.cursor.Step.{Step}
-use Rattle.blocks.specs.declared.cursor.Step.TheVariants as step
+use Rattle.blocks.specs.Step.{Step}
+use Rattle.blocks.specs.Step as step
 use Rattle.blocks.proofs.StepLaws.{of_step}
 use Rattle.rows.specs.Rows.{Row, add_up}
 use Rattle.rows.specs.Posting.{Report, entries, post_rows, after}
@@ -20,6 +20,7 @@ use Rattle.ledger.proofs.NarrowLaws.{Fit, record_fits, post_ruled}
 use Rattle.ledger.proofs.ReportLaws.{lies}
 use Rattle.feed.specs.Blocks.{next_of, reports_from, reports_of}
 use Rattle.feed.specs.Runs.{State, go_on, run_from}
+use Rattle.feed.specs.declared.run.Ending.TheVariants as ending
 use Rattle.feed.specs.declared.block.Next.{Next}
 use Rattle.feed.specs.declared.block.Next.TheVariants as next
 use Rattle.feed.proofs.BlockReports.{reports_step}
@@ -44,7 +45,7 @@ reports_fit s o (suc n) at = subst AllFit (sym (reports_step s n at)) (go (repor
     go ih (step.Refused m q) e = tt
     go ih (step.Taken t c) e = (record_fits s t (lies s at t c o e), ih c.at)
 
-pub block-ruled : (rows : List Row) (s : List ℕ) → Octets s → Ruled rows → Ruled (after add_up rows (reports_of s))
+block-ruled : (rows : List Row) (s : List ℕ) → Octets s → Ruled rows → Ruled (after add_up rows (reports_of s))
 block-ruled rows s o w = after-ruled rows (reports_of s) w (reports_fit s o _ 3)
 
 -- block after block
@@ -55,9 +56,9 @@ run-ruled (suc n) s o over st w = go (λ len to. run-ruled n (drop len s) (Octet
   where
     go : ((len : ℕ) (to : State) → Ruled to.rows → Ruled (run_from n (drop len s) over to).state.rows) → (x : Next)
         → Ruled (go_on s st (λ len to. run_from n (drop len s) over to) x).state.rows
-    go ih next.Ended = w
-    go ih next.Stopped = w
-    go ih next.More = w
+    go ih (next.Left ending.Ended) = w
+    go ih (next.Left ending.Stopped) = w
+    go ih (next.Left ending.More) = w
     go ih (next.Skipped len) = ih len _ w
     go ih (next.Accepted len) = ih len _ (block-ruled st.rows s o w)
 

@@ -3,18 +3,19 @@ use mathlib.Core.Bool.{Bool, true, false}
 use mathlib.Core.List.{List}
 use mathlib.Core.Path.{◌≡◌, refl, sym, ap, ◌∙◌, subst}
 use Prim.Native.Nat.{ℕ, ◌≤◌, ◌<◌}
-use borrow.Author.Tests.{ltb-true, ltb-false, lt-ltb, le-ltb, eq-eqb, ne_eqb}
+use borrow.Author.Tests.{ltb-true, ltb-false, lt-ltb, le-ltb}
 use lib.Dec.{ltb, eqb}
 use lib.ListN.{length}
 use Rattle.octets.specs.Choice.{pick}
 use Rattle.octets.specs.Numbers.{Octets}
 use Rattle.octets.proofs.Cases.{test, choose}
 use Rattle.blocks.specs.Walks.{read_of}
-use Rattle.blocks.specs.declared.walk.Reading.{Reading}
-use Rattle.blocks.specs.declared.walk.Reading.TheVariants as reading
+use Rattle.blocks.specs.Reading.{Reading}
+use Rattle.blocks.specs.Reading as reading
 use Rattle.blocks.proofs.HeaderLaws.{header-good}
 use Rattle.blocks.proofs.TakenLaws.{accepted-head}
 use Rattle.feed.specs.Blocks.{len_of, tally, judged_by, judged, next_of, listed_next, next_listed}
+use Rattle.feed.specs.declared.run.Ending.{Ending}
 use Rattle.feed.specs.declared.block.Next.{Next}
 use Rattle.feed.specs.declared.block.Next.TheVariants as next
 
@@ -29,30 +30,30 @@ pub record Whole (s : List ℕ) (len : ℕ) : Type 0 where
 module _ (s : List ℕ) (over : Bool) where
   -- fewer than 3 octets
   module _ (short : length s < 3) where
-    pub next-few : over ≡ false → Next.More ≡ next_of s over
+    pub next-few : over ≡ false → Next.Left Ending.More ≡ next_of s over
     unfolding next_of
     next-few e = rw (lt-ltb (length s) 3 short, e)
 
-    pub next-ended : over ≡ true → length s ≡ 0 → Next.Ended ≡ next_of s over
+    pub next-ended : over ≡ true → eqb (length s) 0 ≡ true → Next.Left Ending.Ended ≡ next_of s over
     unfolding next_of
-    next-ended e z = rw (lt-ltb (length s) 3 short, e, eq-eqb (length s) 0 z)
+    next-ended e z = rw (lt-ltb (length s) 3 short, e, z)
 
-    pub next-cut : over ≡ true → (length s ≡ 0 → ⊥) → Next.Stopped ≡ next_of s over
+    pub next-cut : over ≡ true → eqb (length s) 0 ≡ false → Next.Left Ending.Stopped ≡ next_of s over
     unfolding next_of
-    next-cut e z = rw (lt-ltb (length s) 3 short, e, ne_eqb (length s) 0 z)
+    next-cut e z = rw (lt-ltb (length s) 3 short, e, z)
 
   -- LEN is there
   module _ (long : 3 ≤ length s) (len : ℕ) (is : len ≡ len_of s) where
-    pub next_low : len < 4 → Next.Stopped ≡ next_of s over
+    pub next_low : len < 4 → Next.Left Ending.Stopped ≡ next_of s over
     unfolding next_of
     next_low h = rw (le-ltb (length s) 3 long, ← is, lt-ltb len 4 h)
 
     module _ (least : 4 ≤ len) where
-      pub next-stopped : length s < len → over ≡ true → Next.Stopped ≡ next_of s over
+      pub next-stopped : length s < len → over ≡ true → Next.Left Ending.Stopped ≡ next_of s over
       unfolding next_of
       next-stopped h e = rw (le-ltb (length s) 3 long, ← is, le-ltb len 4 least, lt-ltb (length s) len h, e)
 
-      pub next_more : length s < len → over ≡ false → Next.More ≡ next_of s over
+      pub next_more : length s < len → over ≡ false → Next.Left Ending.More ≡ next_of s over
       unfolding next_of
       next_more h e = rw (le-ltb (length s) 3 long, ← is, le-ltb len 4 least, lt-ltb (length s) len h, e)
 
@@ -79,9 +80,9 @@ module _ (s : List ℕ) (over : Bool) where
 
   -- test after test
   pub next_cases : (P : Next → Type 0)
-      → (length s < 3 → P (pick over (pick (eqb (length s) 0) Next.Ended Next.Stopped) Next.More))
-      → (3 ≤ length s → len_of s < 4 → P Next.Stopped)
-      → (length s < len_of s → P (pick over Next.Stopped Next.More))
+      → (length s < 3 → P (pick over (pick (eqb (length s) 0) (Next.Left Ending.Ended) (Next.Left Ending.Stopped)) (Next.Left Ending.More)))
+      → (3 ≤ length s → len_of s < 4 → P (Next.Left Ending.Stopped))
+      → (length s < len_of s → P (pick over (Next.Left Ending.Stopped) (Next.Left Ending.More)))
       → (Whole s (len_of s) → P (judged (len_of s) (read_of s))) → P (next_of s over)
   unfolding next_of
   next_cases P short low cut whole =
@@ -90,23 +91,20 @@ module _ (s : List ℕ) (over : Bool) where
       choose P (ltb (length s) (len_of s)) (λ e. cut (ltb-true (length s) (len_of s) e)) λ e3.
       whole (record { is-len = refl; least = ltb-false (len_of s) 4 e2; fits = ltb-false (length s) (len_of s) e3 })
 
-  -- what is known of a block: its octets are there, and reading accepts it where it is said to
-  abbrev pub Block : Next → Type 0
-  Block next.Ended = Unit {0}
-  Block next.Stopped = Unit {0}
-  Block next.More = Unit {0}
-  Block (next.Skipped l) = l ≤ length s
-  Block (next.Accepted l) = (l ≤ length s) × ((n : ℕ) × (read_of s ≡ Reading.Accepted l n))
+  -- what is accepted, reading accepts
+  abbrev Read : Next → Type 0
+  Read (next.Left e) = Unit {0}
+  Read (next.Skipped l) = Unit {0}
+  Read (next.Accepted l) = (n : ℕ) × (read_of s ≡ Reading.Accepted l n)
 
   -- by what reading says
-  block-judged : Octets s → len_of s ≤ length s → (r : Reading) → read_of s ≡ r → Block (judged (len_of s) r)
-  block-judged o h (reading.Refused n at) e = h
-  block-judged o h (reading.Accepted l n) e =
-      let g = header-good s _ l (accepted-head s l n o e) in (h, (n, e ∙ ap (λ x. Reading.Accepted x n) g.is-len))
+  read-judged : Octets s → (r : Reading) → read_of s ≡ r → Read (judged (len_of s) r)
+  read-judged o (reading.Refused n at) e = tt
+  read-judged o (reading.Accepted l n) e =
+      let g = header-good s _ l (accepted-head s l n o e) in (n, e ∙ ap (λ x. Reading.Accepted x n) g.is-len)
 
-  -- so of what comes next
-  pub next-block : Octets s → (x : Next) → x ≡ next_of s over → Block x
-  next-block o x e =
-      subst Block (sym e)
-      (next_cases Block (λ l. choose Block over (λ e. choose Block (eqb (length s) 0) (λ d. tt) (λ d. tt)) (λ e. tt)) (λ l h. tt)
-      (λ l. choose Block over (λ e. tt) (λ e. tt)) (λ w. block-judged o w.fits (read_of s) refl))
+  pub next_accepted : Octets s → (l : ℕ) → Next.Accepted l ≡ next_of s over → (n : ℕ) × (read_of s ≡ Reading.Accepted l n)
+  next_accepted o l e =
+      subst Read (sym e)
+      (next_cases Read (λ l. choose Read over (λ e. choose Read (eqb (length s) 0) (λ d. tt) (λ d. tt)) (λ e. tt)) (λ l h. tt)
+      (λ l. choose Read over (λ e. tt) (λ e. tt)) (λ w. read-judged o (read_of s) refl))

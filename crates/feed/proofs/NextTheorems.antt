@@ -17,10 +17,10 @@ use Rattle.blocks.specs.Steps.{step_of}
 use Rattle.blocks.specs.Walks.{read_of}
 use Rattle.blocks.specs.declared.record.Record.{Record}
 use Rattle.blocks.specs.declared.statistics.Statistics.{Statistics}
-use Rattle.blocks.specs.declared.cursor.Step.{Step}
-use Rattle.blocks.specs.declared.cursor.Step.TheVariants as step
-use Rattle.blocks.specs.declared.walk.Reading.{Reading}
-use Rattle.blocks.specs.declared.walk.Reading.TheVariants as reading
+use Rattle.blocks.specs.Step.{Step}
+use Rattle.blocks.specs.Step as step
+use Rattle.blocks.specs.Reading.{Reading}
+use Rattle.blocks.specs.Reading as reading
 use Rattle.blocks.proofs.SameAnswers.{read-after_len, step-after_len}
 use Rattle.blocks.proofs.StepLaws.{of_step}
 use Rattle.rows.specs.Posting.{counts}
@@ -30,6 +30,8 @@ use Rattle.ledger.specs.Steps.{Lies}
 use Rattle.ledger.proofs.ReportLaws.{lies, entries_lie}
 use Rattle.feed.specs.Blocks.{len_of, judged, next_of, reports_from, reports_of}
 use Rattle.feed.specs.Runs.{State, accepted_block}
+use Rattle.feed.specs.declared.run.Ending.{Ending}
+use Rattle.feed.specs.declared.run.Ending.TheVariants as ending
 use Rattle.feed.specs.declared.block.Next.{Next}
 use Rattle.feed.specs.declared.block.Next.TheVariants as next
 use Rattle.feed.proofs.NextLaws.{Whole, next_cases, next_low, next-judged}
@@ -62,15 +64,15 @@ module _ (s : List ℕ) where
   abbrev Says : Bool → Next → Type 0
   Says over (next.Accepted len) = Whole s len
   Says over (next.Skipped len) = Whole s len
-  Says over next.Ended = over ≡ true
-  Says over next.Stopped = Unit {0}
-  Says over next.More = (over ≡ false) × ((length s < 3) ⊎ (length s < len_of s))
+  Says over (next.Left ending.Ended) = over ≡ true
+  Says over (next.Left ending.Stopped) = Unit {0}
+  Says over (next.Left ending.More) = (over ≡ false) × ((length s < 3) ⊎ (length s < len_of s))
 
-  says-short : (over : Bool) → length s < 3 → Says over (pick over (pick (eqb (length s) 0) Next.Ended Next.Stopped) Next.More)
+  says-short : (over : Bool) → length s < 3 → Says over (pick over (pick (eqb (length s) 0) (Next.Left Ending.Ended) (Next.Left Ending.Stopped)) (Next.Left Ending.More))
   says-short true l = choose (Says true) (eqb (length s) 0) (λ e. refl) (λ e. tt)
   says-short false l = (refl, inl l)
 
-  says-cut : (over : Bool) → length s < len_of s → Says over (pick over Next.Stopped Next.More)
+  says-cut : (over : Bool) → length s < len_of s → Says over (pick over (Next.Left Ending.Stopped) (Next.Left Ending.More))
   says-cut true l = tt
   says-cut false l = (refl, inr l)
 
@@ -90,19 +92,19 @@ module _ (s : List ℕ) where
   next_whole_block over len (inr e) = next-says over (Next.Skipped len) e
 
   -- fewer octets wait than the longest block has
-  pub next-waits : Octets s → next_of s false ≡ Next.More → length s < 65535
-  next-waits o e = go (next-says false Next.More e).1
+  pub next-waits : Octets s → next_of s false ≡ Next.Left Ending.More → length s < 65535
+  next-waits o e = go (next-says false (Next.Left Ending.More) e).1
     where
       go : (length s < 3) ⊎ (length s < len_of s) → length s < 65535
       go (inl l) = omega arith
       go (inr l) = omega (arith, number_lt 2 s 1 o)
 
   -- input that is not over does not end; where it is over, nothing is waited for
-  pub never_ended : next_of s false ≡ Next.Ended → ⊥
-  never_ended e = false≢true (next-says false Next.Ended e)
+  pub never_ended : next_of s false ≡ Next.Left Ending.Ended → ⊥
+  never_ended e = false≢true (next-says false (Next.Left Ending.Ended) e)
 
-  pub never_more : next_of s true ≡ Next.More → ⊥
-  never_more e = false≢true (sym (next-says true Next.More e).0)
+  pub never_more : next_of s true ≡ Next.Left Ending.More → ⊥
+  never_more e = false≢true (sym (next-says true (Next.Left Ending.More) e).0)
 
 -- Octets behind what is decided
 
@@ -129,9 +131,9 @@ module _ (s t : List ℕ) (len : ℕ) (w : Whole s len) where
       (omega (arith, long-more s t)) before
 
 -- What is decided by the octets at hand is decided for good.
-pub next_more : (s t : List ℕ) (over : Bool) → Octets (s ++ t) → (x : Next) → next_of s false ≡ x → (x ≡ Next.More → ⊥) → next_of (s ++ t) over ≡ x
+pub next_more : (s t : List ℕ) (over : Bool) → Octets (s ++ t) → (x : Next) → next_of s false ≡ x → (x ≡ Next.Left Ending.More → ⊥) → next_of (s ++ t) over ≡ x
 next_more s t over o x e n =
-    next_cases s false (λ y. (y ≡ Next.More → ⊥) → next_of (s ++ t) over ≡ y)
+    next_cases s false (λ y. (y ≡ Next.Left Ending.More → ⊥) → next_of (s ++ t) over ≡ y)
     (λ l m. absurd (m refl))
     (λ l h m. sym (next_low (s ++ t) over (omega (arith, long-more s t)) (len_of (s ++ t)) refl (rw (len_more s t l) h)))
     (λ l m. absurd (m refl))

@@ -25,17 +25,13 @@ Proper false ending.More = Unit {0}
 Proper false ending.Ended = ⊥
 Proper false ending.Stopped = Unit {0}
 
-proper-ended : (s : List ℕ) (over : Bool) → next_of s over ≡ Next.Ended → Proper over Ending.Ended
-proper-ended s true e = tt
-proper-ended s false e = never_ended s e
-
-proper-more : (s : List ℕ) (over : Bool) → next_of s over ≡ Next.More → Proper over Ending.More
-proper-more s true e = never_more s e
-proper-more s false e = tt
-
-proper-stopped : (over : Bool) → Proper over Ending.Stopped
-proper-stopped true = tt
-proper-stopped false = tt
+left-proper : (s : List ℕ) (over : Bool) (e : Ending) → next_of s over ≡ Next.Left e → Proper over e
+left-proper s true ending.Ended h = tt
+left-proper s true ending.Stopped h = tt
+left-proper s true ending.More h = never_more s h
+left-proper s false ending.Ended h = never_ended s h
+left-proper s false ending.Stopped h = tt
+left-proper s false ending.More h = tt
 
 -- how a run leaves off
 pub record Left (s : List ℕ) (over : Bool) (at : ℕ) (e : Ending) : Type 0 where
@@ -59,9 +55,7 @@ left-from (suc n) s over st l = go (next_of s over) refl (λ len. left-from n (d
         → ((len : ℕ) (to : State) → length (drop len s) < n
         → Left (drop len s) over (run_from n (drop len s) over to).at (run_from n (drop len s) over to).ending)
         → let r = go_on s st (λ len to. run_from n (drop len s) over to) x in Left s over r.at r.ending
-    go next.Ended e ih = record { within = omega arith; proper = proper-ended s over e }
-    go next.Stopped e ih = record { within = omega arith; proper = proper-stopped over }
-    go next.More e ih = record { within = omega arith; proper = proper-more s over e }
+    go (next.Left x) e ih = record { within = omega arith; proper = left-proper s over x e }
     go (next.Skipped len) e ih = left_behind s over n len l (next_whole_block s over len (inr e)) _ _ (ih len (refused_block st))
     go (next.Accepted len) e ih = left_behind s over n len l (next_whole_block s over len (inl e)) _ _ (ih len (accepted_block st s))
 

@@ -10,7 +10,7 @@ use lib.Seq.{drop-append-le, drop-drop}
 use Rattle.octets.specs.Numbers.{Octets}
 use Rattle.octets.proofs.Parts.{Octets-drop}
 use Rattle.feed.specs.Blocks.{next_of}
-use Rattle.feed.specs.Runs.{State, accepted_block, refused_block, Run, left, behind, go_on, run_from, run_over, onward, in_pieces, joined}
+use Rattle.feed.specs.Runs.{State, accepted_block, refused_block, Run, left, behind, leaving, go_on, run_from, run_over, onward, in_pieces, joined}
 use Rattle.feed.specs.declared.run.Ending.{Ending}
 use Rattle.feed.specs.declared.run.Ending.TheVariants as ending
 use Rattle.feed.specs.declared.block.Next.{Next}
@@ -33,9 +33,7 @@ fuel (suc n) (suc m) s over st l k = go (next_of s over) refl (λ len. fuel n m 
         → ((len : ℕ) (st' : State) → length (drop len s) < n → length (drop len s) < m
         → run_from n (drop len s) over st' ≡ run_from m (drop len s) over st')
         → go_on s st (λ len st'. run_from n (drop len s) over st') x ≡ go_on s st (λ len st'. run_from m (drop len s) over st') x
-    go next.Ended e ih = refl
-    go next.Stopped e ih = refl
-    go next.More e ih = refl
+    go (next.Left x) e ih = refl
     go (next.Skipped len) e ih =
         let w = next_whole_block s over len (inr e) in
         ap (behind len) (ih len (refused_block st) (rest-less s len n w l) (rest-less s len m w k))
@@ -49,30 +47,26 @@ enough n s over st o l = fuel n (suc (length s)) s over st l (omega arith)
 
 -- A run by what its octets begin with
 module _ (s : List ℕ) (over : Bool) (st : State) where
-  run-waits : next_of s over ≡ Next.More → run_over s over st ≡ left st 0 Ending.More
+  pub run-left_off : (e : Ending) → next_of s over ≡ Next.Left e → run_over s over st ≡ left (leaving e st) 0 e
   unfolding run_from
-  run-waits e = rw e
-
-  run-stops : next_of s over ≡ Next.Stopped → run_over s over st ≡ left (refused_block st) 0 Ending.Stopped
-  unfolding run_from
-  run-stops e = rw e
+  run-left_off e h = rw h
 
   module _ (len : ℕ) where
     run_on : Whole s len → (st' : State) → run_from (length s) (drop len s) over st' ≡ run_over (drop len s) over st'
     run_on w st' = fuel (length s) (suc (length (drop len s))) (drop len s) over st' (rest-less s len (length s) w (omega arith)) (omega arith)
 
-    run_skipped : next_of s over ≡ Next.Skipped len → run_over s over st ≡ behind len (run_over (drop len s) over (refused_block st))
+    pub run_skipped : next_of s over ≡ Next.Skipped len → run_over s over st ≡ behind len (run_over (drop len s) over (refused_block st))
     unfolding run_from
     run_skipped e = rw e (ap (behind len) (run_on (next_whole_block s over len (inr e)) (refused_block st)))
 
-    run-accepted : next_of s over ≡ Next.Accepted len → run_over s over st ≡ behind len (run_over (drop len s) over (accepted_block st s))
+    pub run-accepted : next_of s over ≡ Next.Accepted len → run_over s over st ≡ behind len (run_over (drop len s) over (accepted_block st s))
     unfolding run_from
     run-accepted e = rw e (ap (behind len) (run_on (next_whole_block s over len (inl e)) (accepted_block st s)))
 
 -- What holds of every run over input that is not over: it stops, it waits, or a block stands in front of another run
 module _ (P : List ℕ → State → Run → Type 0)
-    (stops : (s : List ℕ) (st : State) → next_of s false ≡ Next.Stopped → P s st (left (refused_block st) 0 Ending.Stopped))
-    (waits : (s : List ℕ) (st : State) → next_of s false ≡ Next.More → P s st (left st 0 Ending.More))
+    (stops : (s : List ℕ) (st : State) → next_of s false ≡ Next.Left Ending.Stopped → P s st (left (refused_block st) 0 Ending.Stopped))
+    (waits : (s : List ℕ) (st : State) → next_of s false ≡ Next.Left Ending.More → P s st (left st 0 Ending.More))
     (skips : (s : List ℕ) (st : State) (len : ℕ) → next_of s false ≡ Next.Skipped len
     → (r : Run) → P (drop len s) (refused_block st) r → P s st (behind len r))
     (accepts : (s : List ℕ) (st : State) (len : ℕ) → next_of s false ≡ Next.Accepted len
@@ -83,9 +77,9 @@ module _ (P : List ℕ → State → Run → Type 0)
     where
       go : (x : Next) → next_of s false ≡ x
           → ((len : ℕ) (st' : State) → length (drop len s) < n → P (drop len s) st' (run_over (drop len s) false st')) → P s st (run_over s false st)
-      go next.Ended e ih = absurd (never_ended s e)
-      go next.Stopped e ih = subst (P s st) (sym (run-stops s false st e)) (stops s st e)
-      go next.More e ih = subst (P s st) (sym (run-waits s false st e)) (waits s st e)
+      go (next.Left ending.Ended) e ih = absurd (never_ended s e)
+      go (next.Left ending.Stopped) e ih = subst (P s st) (sym (run-left_off s false st Ending.Stopped e)) (stops s st e)
+      go (next.Left ending.More) e ih = subst (P s st) (sym (run-left_off s false st Ending.More e)) (waits s st e)
       go (next.Skipped len) e ih =
           subst (P s st) (sym (run_skipped s false st len e))
           (skips s st len e _ (ih len (refused_block st) (rest-less s len n (next_whole_block s false len (inr e)) l)))
@@ -98,10 +92,10 @@ module _ (P : List ℕ → State → Run → Type 0)
 
 -- Octets used, and octets behind
 
-behind-none : (r : Run) → behind 0 r ≡ r
+pub behind-none : (r : Run) → behind 0 r ≡ r
 behind-none r = ap (λ (n : ℕ). left r.state n r.ending) (omega arith)
 
-behind-both : (n m : ℕ) (r : Run) → behind n (behind m r) ≡ behind (n + m) r
+pub behind-both : (n m : ℕ) (r : Run) → behind n (behind m r) ≡ behind (n + m) r
 behind-both n m r = ap (λ (k : ℕ). left r.state k r.ending) (omega arith)
 
 octets-drop : (n : ℕ) (s t : List ℕ) → Octets (s ++ t) → Octets (drop n s ++ t)
@@ -152,7 +146,7 @@ module _ (t : List ℕ) (over : Bool) where
   onward-run : (s : List ℕ) (st : State) → Octets (s ++ t) → Onward s st (run_over s false st) (run_over s false st).ending
   onward-run =
       runs (λ s st r. Octets (s ++ t) → Onward s st r r.ending)
-      (λ s st e o. run-stops (s ++ t) over st (next_more s t over o Next.Stopped e (λ h. let z : ◌≡◌ {A = ℕ} 0 1 = cc in omega arith)))
+      (λ s st e o. run-left_off (s ++ t) over st Ending.Stopped (next_more s t over o (Next.Left Ending.Stopped) e (λ h. let z : ◌≡◌ {A = ℕ} 0 1 = cc in omega arith)))
       (λ s st e o. sym (behind-none _))
       (λ s st len e r ih o. onward-behind s st (refused_block st) len r (skipped_more s st len o e) r.ending (ih (octets-drop len s t o)))
       (λ s st len e r ih o. onward-behind s st (accepted_block st s) len r (accepted-more s st len o e) r.ending (ih (octets-drop len s t o)))

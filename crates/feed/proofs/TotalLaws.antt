@@ -1,13 +1,13 @@
 -- Counts that go up to 2^64 - 1 and stay there, and the totals made of them. Assumes nothing.
 use mathlib.Core.List.{List, [], ◌∷◌}
-use mathlib.Core.Path.{◌≡◌, refl, sym, ap, ◌∙◌}
+use mathlib.Core.Path.{◌≡◌, sym, ap, ◌∙◌}
 use Prim.Native.Nat.{ℕ, ◌+◌, ◌-◌, ◌≤◌, ◌<◌, ◌^◌}
 use native.Mathlib.Nat.{add-zero, add_assoc}
 use native.Mathlib.Omega.{arith}
-use borrow.Author.Tests.{leb-true, leb-false, le-leb, lt-leb, eq-eqb, ne_eqb}
+use borrow.Author.Tests.{leb-true, leb-false, le-leb, lt-leb}
 use lib.Dec.{leb, eqb}
 use Rattle.octets.specs.Choice.{pick}
-use Rattle.octets.specs.Refusals.{no_room, life_passes}
+use Rattle.octets.specs.Refusals.{not_statistics, no_room, life_passes}
 use Rattle.octets.proofs.Cases.{test}
 use Rattle.rows.specs.Order.{times}
 use Rattle.feed.specs.Totals.{up, answered_one, block_done, accepted_one}
@@ -22,13 +22,6 @@ up-low n k h = rw (lt-leb (2 ^ 64) (n + k) h)
 -- from there on it is 2^64 - 1
 pub up-high : (n k : ℕ) → 2 ^ 64 ≤ n + k → up n k ≡ 2 ^ 64 - 1
 up-high n k h = rw (le-leb (2 ^ 64) (n + k) h)
-
--- so one more is the next number, and 2^64 - 1 stays
-pub up_one : (n : ℕ) → n < 2 ^ 64 - 1 → n + 1 ≡ up n 1
-up_one n h = sym (up-low n 1 (omega arith))
-
-pub up-last : (n : ℕ) → 2 ^ 64 - 1 ≤ n → n < 2 ^ 64 → n ≡ up n 1
-up-last n h l = (let e : n ≡ 2 ^ 64 - 1 = omega arith in e) ∙ sym (up-high n 1 (omega arith))
 
 -- there are these two cases
 up_cases : {P : Type 0} (n k : ℕ) → (n + k < 2 ^ 64 → P) → (2 ^ 64 ≤ n + k → P) → P
@@ -61,16 +54,7 @@ up-sum n a b =
 pub up_none : (n : ℕ) → n < 2 ^ 64 → up n 0 ≡ n
 up_none n h = up-low n 0 (omega arith) ∙ add-zero n
 
--- Answers counted: how often a number stands in a list of one
-time-one : (n k : ℕ) → n ≡ k → times k (n ∷ []) ≡ 1
-unfolding times
-time-one n k e = rw (eq-eqb n k e)
-
-time-none : (n k : ℕ) → (n ≡ k → ⊥) → times k (n ∷ []) ≡ 0
-unfolding times
-time-none n k e = rw (ne_eqb n k e)
-
--- in front of others it stands there so often more
+-- Answers counted: in front of others a number stands there so often more
 times_split : (k n : ℕ) (ns : List ℕ) → times k (n ∷ ns) ≡ times k (n ∷ []) + times k ns
 unfolding times
 times_split k n ns = test (eqb n k) (λ t. rw t (omega arith)) (λ f. rw f (omega arith))
@@ -87,50 +71,12 @@ pub record Small (t : Totals) : Type 0 where
 
 -- One answer
 module _ (t : Totals) (n : ℕ) where
-  abbrev answered_by : ℕ → ℕ → Totals
-  answered_by p u = totals t.accepted t.refused p u
-
-  -- by how often 0, 14 and 15 are answered
-  answered-by : (i j k : ℕ) → times 0 (n ∷ []) ≡ i → times no_room (n ∷ []) ≡ j → times life_passes (n ∷ []) ≡ k
-      → answered_one t n ≡ answered_by (up t.posted i) (up t.unposted (j + k))
-  answered-by i j k e f g p = answered_by (up t.posted (e p)) (up t.unposted (f p + g p))
-
   -- the counts have 64 bits then
   pub answered-small : Small (answered_one t n)
   answered-small = record {
     posted = up_fits t.posted (times 0 (n ∷ []));
     unposted = up_fits t.unposted (times no_room (n ∷ []) + times life_passes (n ∷ []));
   }
-
-  module _ (s : Small t) where
-    -- 0: one record more that was posted
-    pub answered-posted : n ≡ 0 → (m : ℕ) → m ≡ up t.posted 1 → answered_by m t.unposted ≡ answered_one t n
-    answered-posted e m is =
-        sym (answered-by 1 0 0 (time-one n 0 e) (time-none n no_room (λ z. omega arith)) (time-none n life_passes (λ z. omega arith))
-        ∙ λ p. answered_by (sym is p) (up_none t.unposted s.unposted p))
-
-    module _ (m : ℕ) (is : m ≡ up t.unposted 1) where
-      -- one record more that was not posted
-      unposted-is : (j k : ℕ) → (n ≡ 0 → ⊥) → times no_room (n ∷ []) ≡ j → times life_passes (n ∷ []) ≡ k → j + k ≡ 1
-          → answered_by t.posted m ≡ answered_one t n
-      unposted-is j k z f g e =
-          sym (answered-by 0 j k (time-none n 0 z) f g ∙ ap (λ i. answered_by (up t.posted 0) (up t.unposted i)) e
-          ∙ λ p. answered_by (up_none t.posted s.posted p) (sym is p))
-
-      -- 14 and 15
-      pub answered_no_room : n ≡ no_room → answered_by t.posted m ≡ answered_one t n
-      answered_no_room e =
-          unposted-is 1 0 (λ z. omega arith) (time-one n no_room e) (time-none n life_passes (λ z. omega arith)) refl
-
-      pub answered-passes : n ≡ life_passes → answered_by t.posted m ≡ answered_one t n
-      answered-passes e =
-          unposted-is 0 1 (λ z. omega arith) (time-none n no_room (λ z. omega arith)) (time-one n life_passes e) refl
-
-    -- any other number is not counted
-    pub answered-other : (n ≡ 0 → ⊥) → (n ≡ no_room → ⊥) → (n ≡ life_passes → ⊥) → t ≡ answered_one t n
-    answered-other a b c =
-        sym (answered-by 0 0 0 (time-none n 0 a) (time-none n no_room b) (time-none n life_passes c)
-        ∙ λ p. answered_by (up_none t.posted s.posted p) (up_none t.unposted s.unposted p))
 
   -- a block's answers: the first, and then the others
   pub answered-more : (ns : List ℕ) → accepted_one (answered_one t n) ns ≡ accepted_one t (n ∷ ns)
@@ -141,6 +87,11 @@ module _ (t : Totals) (n : ℕ) where
       totals (up t.accepted 1) t.refused ((up_up t.posted (times 0 (n ∷ [])) (times 0 ns) ∙ ap (up t.posted) zero) p)
       ((up_up t.unposted (times no_room (n ∷ []) + times life_passes (n ∷ [])) (times no_room ns + times life_passes ns)
       ∙ ap (up t.unposted) others) p)
+
+-- 13 is not counted
+pub uncounted : (t : Totals) → Small t → t ≡ answered_one t not_statistics
+unfolding times
+uncounted t s p = totals t.accepted t.refused (sym (up_none t.posted s.posted) p) (sym (up_none t.unposted s.unposted) p)
 
 -- none
 pub answered-none : (t : Totals) → Small t → accepted_one t [] ≡ block_done t

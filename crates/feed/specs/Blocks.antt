@@ -4,12 +4,14 @@ use Rattle.octets.specs.Choice.{pick}
 use Rattle.octets.specs.Numbers.{number}
 use Rattle.blocks.specs.Steps.{step_by}
 use Rattle.blocks.specs.Walks.{read_of}
-use Rattle.blocks.specs.declared.walk.Reading.{Reading}
-use Rattle.blocks.specs.declared.walk.Reading.TheVariants as reading
+use Rattle.blocks.specs.Reading.{Reading}
+use Rattle.blocks.specs.Reading as reading
 use Rattle.rows.specs.Posting.{Report}
 use Rattle.ledger.specs.Reports.{report_in}
 use Rattle.feed.specs.declared.block.Next.{Next}
 use Rattle.feed.specs.declared.block.Next.TheVariants as next
+use Rattle.feed.specs.declared.run.Ending.{Ending}
+use Rattle.feed.specs.declared.run.Ending.TheVariants as ending
 
 -- LEN, of three octets at least
 abbrev pub len_of : List ℕ → ℕ
@@ -34,7 +36,7 @@ abbrev pub judged : ℕ → Reading → Next
 judged = judged_by Next.Accepted Next.Skipped
 
 unfoldable pub next_of : List ℕ → Bool → Next
-next_of = next_by Next.Accepted Next.Skipped Next.Ended Next.Stopped Next.More
+next_of = next_by Next.Accepted Next.Skipped (Next.Left Ending.Ended) (Next.Left Ending.Stopped) (Next.Left Ending.More)
 
 -- The same in numbers: the blocks accepted, the blocks refused, and the octets that the run goes on by
 pub record NextListed : Type 0 where
@@ -48,9 +50,9 @@ tally accepted refused octets = record { accepted = accepted; refused = refused;
 abbrev pub listed_next : Next → NextListed
 listed_next (next.Accepted len) = tally 1 0 len
 listed_next (next.Skipped len) = tally 0 1 len
-listed_next next.Ended = tally 0 0 0
-listed_next next.Stopped = tally 0 1 0
-listed_next next.More = tally 0 0 0
+listed_next (next.Left ending.Ended) = tally 0 0 0
+listed_next (next.Left ending.Stopped) = tally 0 1 0
+listed_next (next.Left ending.More) = tally 0 0 0
 
 unfoldable pub next_listed : List ℕ → Bool → NextListed
 next_listed = next_by (tally 1 0) (tally 0 1) (tally 0 0 0) (tally 0 1 0) (tally 0 0 0)

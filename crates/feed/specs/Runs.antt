@@ -40,11 +40,15 @@ behind n r = left r.state (n + r.at) r.ending
 abbrev pub refused_block : State → State
 refused_block st = state st.rows (refused_one st.totals)
 
+-- a run that stops counts what it stops at
+abbrev pub leaving : Ending → State → State
+leaving ending.Ended st = st
+leaving ending.Stopped st = refused_block st
+leaving ending.More st = st
+
 -- by what comes next; the rest goes on so many octets further, from a state
 abbrev pub go_on : List ℕ → State → (ℕ → State → Run) → Next → Run
-go_on s st rest next.Ended = left st 0 Ending.Ended
-go_on s st rest next.Stopped = left (refused_block st) 0 Ending.Stopped
-go_on s st rest next.More = left st 0 Ending.More
+go_on s st rest (next.Left e) = left (leaving e st) 0 e
 go_on s st rest (next.Skipped len) = behind len (rest len (refused_block st))
 go_on s st rest (next.Accepted len) = behind len (rest len (accepted_block st s))
 

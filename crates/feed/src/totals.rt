@@ -1,8 +1,9 @@
 // What is counted.
 ghost use Rattle.std.specs.Prelude.{◌≡◌};
-ghost use Rattle.feed.specs.Totals.{up, answered_one, refused_one, block_done};
+ghost use Rattle.octets.specs.Refusals.{refusal_in};
+ghost use Rattle.feed.specs.Totals.{answered_one, refused_one, block_done};
 
-use octets::refusal;
+use octets::refusal::Refusal;
 
 // Blocks accepted and refused, records posted, and records answered 14 or 15. A count stays at 2^64 - 1.
 #[derive(Clone, Copy)]
@@ -21,50 +22,42 @@ pub const ZEROS: Totals = Totals {
     unposted: 0,
 };
 
-// One more, up to 2^64 - 1.
-fn one_more(n: u64) -> u64
-    ensures { result ≡ up n 1 }
-{
-    if n < u64::MAX {
-        return n + 1;
+impl Totals {
+    // The totals with one record's answer.
+    #[tactic(auto, unfolding(rows::specs::Order::times))]
+    pub(crate) fn counted(self, answer: Result<(), Refusal>) -> Totals
+        ensures { result ≡ answered_one self (refusal_in answer) }
+    {
+        match answer {
+            Ok(()) => Totals {
+                posted: self.posted.saturating_add(1),
+                ..self
+            },
+            Err(Refusal::NoRoom | Refusal::LifePasses) => Totals {
+                unposted: self.unposted.saturating_add(1),
+                ..self
+            },
+            Err(_) => self,
+        }
     }
-    n
-}
 
-// The totals with one record's answer.
-pub(crate) fn counted(totals: Totals, answer: u8) -> Totals
-    ensures { result ≡ answered_one totals answer }
-{
-    let mut after = totals;
-    match answer {
-        refusal::ACCEPTED => {
-            after.posted = one_more(totals.posted);
+    // The totals with one more block refused. This and the next are two, as each changes another count.
+    pub(crate) fn with_refused(self) -> Totals
+        ensures { result ≡ refused_one self }
+    {
+        Totals {
+            refused: self.refused.saturating_add(1),
+            ..self
         }
-        refusal::NO_ROOM => {
-            after.unposted = one_more(totals.unposted);
-        }
-        refusal::LIFE_PASSES => {
-            after.unposted = one_more(totals.unposted);
-        }
-        _ => {}
     }
-    after
-}
 
-// The totals with one more block refused.
-pub(crate) fn with_refused(totals: Totals) -> Totals
-    ensures { result ≡ refused_one totals }
-{
-    let mut after = totals;
-    after.refused = one_more(totals.refused);
-    after
-}
-
-// The totals with one more block accepted; its records are counted one by one.
-pub(crate) fn with_accepted(totals: Totals) -> Totals
-    ensures { result ≡ block_done totals }
-{
-    let mut after = totals;
-    after.accepted = one_more(totals.accepted);
-    after
+    // The totals with one more block accepted; its records are counted one by one.
+    pub(crate) fn with_accepted(self) -> Totals
+        ensures { result ≡ block_done self }
+    {
+        Totals {
+            accepted: self.accepted.saturating_add(1),
+            ..self
+        }
+    }
 }

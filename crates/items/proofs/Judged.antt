@@ -23,7 +23,7 @@ use Rattle.items.proofs.Items.{item_of, run-next, run-enough, run_past, typed_tr
 use Rattle.layouts.specs.declared.category.Field.{Field}
 use Rattle.layouts.specs.declared.ends.Kind.{Kind}
 use Rattle.layouts.specs.declared.ends.Kind.TheVariants.{Spare, Fixed, Extended, Repeated, Explicit}
-use Rattle.items.specs.declared.item.Size.{Size}
+use Rattle.items.specs.Size.{Size}
 use Rattle.layouts.specs.declared.form.Form.{Form}
 use Rattle.layouts.specs.declared.form.Form.TheVariants as form
 use Rattle.items.specs.declared.typed.Item.{Item}
@@ -157,9 +157,6 @@ module _ (s : List ℕ) (p : Place) (size n : ℕ) (is : size ≡ version.wide)
       at_place
       ∙ three_refuses passes (eqb p.count 0) (leb (p.count + 0) 255) (fits_in (times p.count version) (groups_at p.count version s p.at)) (λ z. some (at_place ∙ z))
       ∙ sym (placed-refusal s 0 version p)
-
-  pub versions_lie : n ≡ 0 → p.at + p.count * version.wide ≤ length s
-  versions_lie z = ltb-false _ _ (three-lies passes (eqb p.count 0) (leb (p.count + 0) 255) (sym at_place ∙ z))
 
   pub versions-judged : n ≡ 0 → (d : Bool) → d ≡ fits_in (times p.count version) (groups_at p.count version s p.at) → pick d 0 out_of_range ≡ item_refusal s (item.Versions p)
   unfolding format

@@ -6,4 +6,5 @@ pub mod Judged
 pub mod Ranges
 pub mod Written
 pub mod Passed
+pub mod Answered
 pub mod Examples

@@ -16,7 +16,7 @@ use Rattle.layouts.specs.Ends.{end_of, kind_end}
 use Rattle.layouts.specs.Tables.{layout}
 use Rattle.layouts.proofs.KindEnds.{forms-sound, kind_end_lem}
 use Rattle.layouts.proofs.Windows.{run_trace}
-use Rattle.layouts.specs.declared.ends.End.{End}
+use Rattle.layouts.specs.End.{End}
 use Rattle.layouts.specs.declared.ends.Kind.{Kind}
 use Rattle.layouts.specs.declared.form.Form.{Form}
 

@@ -2,11 +2,11 @@
 use mathlib.Core.Path.{◌≡◌, refl, sym, ◌∙◌}
 use mathlib.Core.Bool.{Bool, true, false, ◌&&◌, and-true}
 use mathlib.Core.List.{List, [], ◌∷◌}
-use Prim.Native.Nat.{ℕ, ◌+◌, ◌-◌, ◌*◌, ◌/◌, ◌%◌, ◌^◌, ◌≤◌, ◌<◌}
+use Prim.Native.Nat.{ℕ, ◌+◌, ◌-◌, ◌/◌, ◌%◌, ◌^◌, ◌≤◌, ◌<◌}
 use native.Mathlib.Nat.{div-one, mod-eq_of_lt}
 use native.Mathlib.Omega.{arith}
 use lib.Dec.{leb}
-use lib.ListN.{length, get_or}
+use lib.ListN.{get_or}
 use borrow.Author.Tests.{eqb-false}
 use Rattle.octets.specs.Choice.{pick, odd}
 use Rattle.octets.specs.Numbers.{Octets, number}
@@ -18,11 +18,8 @@ use Rattle.layouts.specs.Offsets.{run_at, trace_at}
 use Rattle.layouts.specs.Layouts.{fx, octet, times, chain, counted}
 use Rattle.layouts.specs.Tables.{period, status}
 use Rattle.layouts.proofs.KindEnds.{flagged, flagged-fx, number-low, count-is}
-use Rattle.layouts.proofs.Windows.{run_trace}
-use Rattle.items.specs.Typed.{val}
 use Rattle.items.proofs.Entries.{fits-ranged, entries_fit_lem, octet-free}
 use Rattle.items.proofs.Items.{number-one, times_trace, run-next, run-enough, run_past, last_clear}
-use Rattle.items.proofs.Judged.{counted-read}
 
 -- a value that has its octets to itself
 pub alone : (k least greatest x : ℕ) → x < 2 ^ k
@@ -101,9 +98,3 @@ module _ (s : List ℕ) (len : ℕ) where
         let w = run-next s len octet (λ v. pick (leb (get_or v 0 0) e) (stop no_count) (times (get_or v 0 0 - e) g)) at tr q h in
         let some : leb n e ≡ false = run_past s len (leb n e) no_count (times (n - e) g) (at + 1) w.0 q (rw (count-is s len o at) at w.1) in
         sym (rw (octet-free (number 1 s at), count-is s len o at, some, times_trace))
-
-    pub counted-room : len ≤ length s → at + 1 + (get_or s at 0 - e) * g.wide ≤ len
-    unfolding trace_at counted
-    counted-room fit =
-        let is : val tr 0 0 ≡ get_or s at 0 = rw (run_trace s len (counted e g) at tr q h) (count-is s len o at) in
-        rw is at (counted-read s len fit e g at tr q h).1

@@ -1,21 +1,15 @@
--- Which values fit (`in_bits`, `extension`), and an arm of a match that stands for several variants (`each_of`). Assumes nothing.
+-- Which values fit (`in_bits`), and an arm of a match that stands for several variants (`each_of`). Assumes nothing.
 use mathlib.Core.Path.{◌≡◌, refl, subst⁻¹}
-use mathlib.Core.Bool.{Bool, true, false, ◌&&◌, and-true, and-false}
+use mathlib.Core.Bool.{Bool, true, false, ◌&&◌, and-false}
 use mathlib.Core.List.{List, [], ◌∷◌}
 use mathlib.Core.Logic.{inl, inr}
-use Prim.Native.Nat.{ℕ, zero, suc, ◌<◌}
+use Prim.Native.Nat.{ℕ, ◌<◌}
 use native.Mathlib.Omega.{arith}
-use lib.Dec.{leb, ltb, eqb}
-use borrow.Author.Tests.{lt-ltb, le-ltb, ne_eqb, leb-true}
+use lib.Dec.{leb, ltb}
+use borrow.Author.Tests.{lt-ltb, leb-true}
 use borrow.Enum.Known.{ValuesAt, at, lives_at}
 use denote.Enum.Declared.{Record, declared, tag_of}
 use types.Run.{OneOf}
-use Rattle.octets.specs.Choice.{pick, when}
-use Rattle.octets.specs.Refusals.{past_last}
-use Rattle.layouts.specs.Groups.{fits}
-use Rattle.layouts.specs.Formats.{done, fits_in}
-use Rattle.layouts.specs.Layouts.{chain}
-use Rattle.layouts.specs.Tables.{period}
 
 module _ (N : Record) (P : N.D → Type 0) where
   -- P of d, from P of each of these variants whatever it holds
@@ -44,13 +38,3 @@ in_bits m a k h v = go (leb v k) refl
     go : (b : Bool) → leb v k ≡ b → (ltb v m && (leb a v && leb v k)) ≡ (leb a v && leb v k)
     go true e = rw (lt-ltb v m (omega (arith, leb-true v k e)))
     go false e = simp (e, and-false)
-
--- FX e, and the period p that follows where it is 1, as `period_fits` tests them
-pub extension : (e p : ℕ) → (ltb e 2 && fits_in (pick (eqb e 1) (chain past_last period []) done) (when (eqb e 1) ((p ∷ 0 ∷ []) ∷ [])))
-    ≡ pick (eqb e 1) (leb 1 p && leb p 127) (eqb e 0)
-unfolding fits fits_in chain
-extension zero p = refl
-extension (suc zero) p = simp (and-true, in_bits 128 1 127 (omega arith))
-extension (suc (suc e)) p =
-    let n = suc (suc e) in
-    simp (le-ltb n 2 (omega arith), ne_eqb n 1 (λ h. omega arith), ne_eqb n 0 (λ h. omega arith))

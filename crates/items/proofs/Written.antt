@@ -7,7 +7,7 @@ use native.Mathlib.Nat.{mul-one, add-sub_cancel}
 use native.Mathlib.Omega.{arith}
 use lib.Dec.{leb}
 use lib.ListN.{length, get_or, length-append}
-use borrow.Author.Tests.{eqb-true, eqb-false, eq-eqb, ne_eqb}
+use borrow.Author.Tests.{eqb-true, eqb-false, eq-eqb}
 use Rattle.octets.specs.Choice.{pick, when, odd}
 use Rattle.octets.specs.Numbers.{octets, laid}
 use Rattle.octets.specs.Refusals.{no_count, past_last}
@@ -185,6 +185,3 @@ module _ (l l1 : List ℕ) (o k v : ℕ) (first : l1 ≡ laid l o (octets k v)) 
 
   pub laid-extended : (l2 y : List ℕ) → l2 ≡ laid l1 (o + k) y → o + k ≤ length l → v % 2 ≡ 1 → l2 ≡ laid l o (octets k v ++ when (odd v) y)
   laid-extended l2 y second room e = rw (eq-eqb (v % 2) 1 e) (laid-behind l2 y second room)
-
-  pub laid-plain : (y : List ℕ) → (v % 2 ≡ 1 → ⊥) → l1 ≡ laid l o (octets k v ++ when (odd v) y)
-  laid-plain y e = rw (ne_eqb (v % 2) 1 e, append-nil) first

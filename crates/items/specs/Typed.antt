@@ -10,8 +10,8 @@ use Rattle.layouts.specs.Offsets.{groups_at}
 use Rattle.layouts.specs.Layouts.{octet, times, format, kind_of}
 use Rattle.layouts.specs.Tables.{period, counter, version, layout}
 use Rattle.layouts.specs.declared.category.Field.{Field}
-use Rattle.items.specs.declared.item.Size.{Size}
-use Rattle.items.specs.declared.item.Size.TheVariants as size
+use Rattle.items.specs.Size.{Size}
+use Rattle.items.specs.Size as size
 use Rattle.layouts.specs.declared.form.Form.{Form}
 use Rattle.layouts.specs.declared.form.Form.TheVariants as form
 use Rattle.items.specs.declared.typed.Item.{Item}

@@ -50,7 +50,7 @@ pub struct Sdps {
     pub sttn: u8,
 }
 
-// 23/100. Extended is 1 where the extension is there, else 0.
+// 23/100. Extended is 1 where the extension is there, else 0: a number, and no Option of the period, since a writer refuses any other number (11).
 #[derive(Clone, Copy)]
 pub struct Station {
     pub nogo: u8,
@@ -64,7 +64,7 @@ pub struct Station {
     pub gssp: Seconds,
 }
 
-// 23/101. Extended is 1 where the extension is there, else 0.
+// 23/101. Extended is a number, as that of 23/100.
 #[derive(Clone, Copy)]
 pub struct Configuration {
     pub rp: HalfSeconds,
@@ -80,7 +80,7 @@ pub struct Place {
     pub count: usize,
 }
 
-// An entry of 23/120.
+// An entry of 23/120. REF is the bit as it stands, and no enum, since entries are handed on in the document's numbers, to C too.
 #[derive(Clone, Copy)]
 pub struct Counter {
     pub typ: u8,

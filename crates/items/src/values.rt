@@ -114,16 +114,8 @@ pub(crate) fn second_of(item: Item) -> u64
     ensures { result ≡ second_number (given item) }
 {
     match item {
-        Item::Station(x) => if x.extended == 1 {
-            x.gssp.0 as u64 * 2
-        } else {
-            0
-        },
-        Item::Configuration(x) => if x.extended == 1 {
-            x.ssrp.0 as u64 * 2
-        } else {
-            0
-        },
+        Item::Station(x) if x.extended == 1 => x.gssp.0 as u64 * 2,
+        Item::Configuration(x) if x.extended == 1 => x.ssrp.0 as u64 * 2,
         _ => 0,
     }
 }
@@ -133,10 +125,7 @@ pub(crate) fn place_of(item: Item) -> Place
     ensures { result ≡ place_of (given item) }
 {
     match item {
-        Item::Statistics(p) => p,
-        Item::Versions(p) => p,
-        Item::Expansion(p) => p,
-        Item::Purpose(p) => p,
+        Item::Statistics(p) | Item::Versions(p) | Item::Expansion(p) | Item::Purpose(p) => p,
         _ => Place { at: 0, count: 0 },
     }
 }
@@ -182,7 +171,7 @@ pub(crate) fn version_of(x: u64) -> Version
 pub(crate) fn within(x: u8, least: u8, greatest: u8) -> bool
     ensures { result ≡ (leb least x && leb x greatest) }
 {
-    if x < least { false } else { x <= greatest }
+    least <= x && x <= greatest
 }
 
 // A period in its range, where the extension is there.
@@ -199,61 +188,32 @@ fn period_fits(extended: u8, seconds: Seconds) -> bool
 fn service_fits(x: Service) -> bool
     ensures { result ≡ exact_fits (item_format (Item.Service x)) (given (Item.Service x)) }
 {
-    if 16 <= x.sid { false } else { x.styp < 16 }
+    x.sid < 16 && x.styp < 16
 }
 
 fn sdps_fits(x: Sdps) -> bool
     ensures { result ≡ exact_fits (item_format (Item.Sdps x)) (given (Item.Sdps x)) }
 {
-    if 4 <= x.nogo {
-        return false;
-    }
-    if 2 <= x.ovl {
-        return false;
-    }
-    if 2 <= x.tsv {
-        return false;
-    }
-    if 4 <= x.pss {
-        return false;
-    }
-    x.sttn < 2
+    x.nogo < 4 && x.ovl < 2 && x.tsv < 2 && x.pss < 4 && x.sttn < 2
 }
 
 fn station_fits(x: Station) -> bool
     ensures { result ≡ exact_fits (item_format (Item.Station x)) (given (Item.Station x)) }
 {
-    if 2 <= x.nogo {
-        return false;
-    }
-    if 2 <= x.odp {
-        return false;
-    }
-    if 2 <= x.oxt {
-        return false;
-    }
-    if 2 <= x.msc {
-        return false;
-    }
-    if 2 <= x.tsv {
-        return false;
-    }
-    if 2 <= x.spo {
-        return false;
-    }
-    if 2 <= x.rn {
-        return false;
-    }
-    period_fits(x.extended, x.gssp)
+    x.nogo < 2
+        && x.odp < 2
+        && x.oxt < 2
+        && x.msc < 2
+        && x.tsv < 2
+        && x.spo < 2
+        && x.rn < 2
+        && period_fits(x.extended, x.gssp)
 }
 
 fn configuration_fits(x: Configuration) -> bool
     ensures { result ≡ exact_fits (item_format (Item.Configuration x)) (given (Item.Configuration x)) }
 {
-    if 8 <= x.sc {
-        return false;
-    }
-    period_fits(x.extended, x.ssrp)
+    x.sc < 8 && period_fits(x.extended, x.ssrp)
 }
 
 // The values that an item gives as such fit their bits and ranges. Of entries and content nothing is said.

@@ -9,11 +9,10 @@ use lib.Dec.{eqb}
 use lib.ListN.{length, get_or}
 use borrow.Author.Tests.{ne_eqb}
 use Rattle.octets.specs.Choice.{pick}
-use Rattle.layouts.specs.Categories.{Category, cat23, cat65, cat242, known, category, field_at}
+use Rattle.layouts.specs.Categories.{Category, cat23, cat65, cat242, category, field_at}
 use Rattle.layouts.specs.Presence.{FieldNeed, needs23, needs65, needs242, needs_of}
 use Rattle.layouts.specs.Layouts.{kind_of}
 use Rattle.layouts.specs.Tables.{layout}
-use Rattle.layouts.specs.declared.category.Field.{Field}
 use Rattle.layouts.specs.declared.ends.Kind.{Kind}
 use Rattle.layouts.specs.declared.form.Form.{Form}
 
@@ -57,15 +56,8 @@ spare-field c ks h f n =
     let e = spare-at (Form.Spare ∷ c.fields) 0 ks h f (rw zero-add (none_has (Unit {0}) ks f n).0) in
     sym (ap (λ (x : Form). record { 0 = x; 1 = kind_of (layout x) }) e)
 
--- the field of a category whose CAT is m
-pub field-at : (m n f : ℕ) (r : Field) → r ≡ field_at (category m) f → n ≡ m → r ≡ field_at (category n) f
-field-at m n f r h e = rw e h
-
--- a category that no match names is not read, and has no field and no need
+-- a category that no match names has no field and no need
 module _ (n : ℕ) (h : NoneOf (Unit {0}) (23 ∷ 65 ∷ 242 ∷ []) n) where
-  pub not_known : known n ≡ false
-  not_known = rw (ne_eqb n 23 h.0.0.1, ne_eqb n 65 h.0.1, ne_eqb n 242 h.1)
-
   pub no_fields : category n ≡ record { cat = n; most = 0; fields = [] }
   no_fields = rw (ne_eqb n 23 h.0.0.1, ne_eqb n 65 h.0.1, ne_eqb n 242 h.1)
 

@@ -17,16 +17,16 @@ use Rattle.layouts.specs.Groups.{Part, spare, value, values, Group}
 use Rattle.layouts.specs.Formats.{Parsed, refused, got, and_then, Format, done, stop, ask, Trace}
 use Rattle.layouts.specs.Offsets.{run_at}
 use Rattle.layouts.specs.Layouts.{Layout, unused, fixed, extended, repeated, explicit, octet, last_of, fx, times, chain, counted, format, kind_of}
-use Rattle.layouts.specs.Ends.{Ends, listed_end, end_of, room_end, counted_end, chain_end, kind_end}
+use Rattle.layouts.specs.Ends.{listed_end, end_of, room_end, counted_end, chain_end, kind_end}
 use Rattle.layouts.specs.Tables.{layout}
 use Rattle.layouts.proofs.Parsed.{of_pick}
-use Rattle.layouts.specs.declared.ends.End.{End}
-use Rattle.layouts.specs.declared.ends.End.TheVariants.{At, Refused}
+use Rattle.layouts.specs.End.{End}
+use Rattle.layouts.specs.End.{At, Refused}
 use Rattle.layouts.specs.declared.form.Form.{Form}
 use Rattle.layouts.specs.declared.form.Form.TheVariants as form
 
 -- an end, told with its number and value
-pub end-told : {r e : End} → r ≡ e → Ends r e
+pub end-told : {r e : End} → r ≡ e → (r ≡ e) × (listed_end r ≡ listed_end e)
 end-told h = (h, ap listed_end h)
 
 -- the last part is FX, a value of one bit

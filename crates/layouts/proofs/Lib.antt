@@ -8,3 +8,4 @@ pub mod Before
 pub mod KindEnds
 pub mod Categories
 pub mod Rules
+pub mod Answered

@@ -1,10 +1,11 @@
 -- Where an item ends, by its kind: the octet after its last one, or 7, 8 and 9 as they are met (01 "Reading order").
-use Rattle.std.specs.Prelude.{◌≡◌, List, ℕ, zero, suc, ◌+◌, ◌*◌, ◌-◌, leb, ltb, get_or}
+use Rattle.std.specs.Prelude.{◌≡◌, Result, List, ℕ, zero, suc, ◌+◌, ◌*◌, ◌-◌, leb, ltb, get_or}
 use Rattle.octets.specs.Choice.{pick, odd}
 use Rattle.octets.specs.Refusals.{spare_marked, passes_end, no_count, past_last}
 use Rattle.layouts.specs.Formats.{Parsed, refused, got}
-use Rattle.layouts.specs.declared.ends.End.{End}
-use Rattle.layouts.specs.declared.ends.End.TheVariants as end
+use Rattle.octets.specs.declared.refusal.Refusal.{Refusal}
+use Rattle.layouts.specs.End.{End, as_end}
+use Rattle.layouts.specs.End as end
 use Rattle.layouts.specs.declared.ends.Kind.{Kind}
 use Rattle.layouts.specs.declared.ends.Kind.TheVariants.{Spare, Fixed, Extended, Repeated, Explicit}
 
@@ -23,8 +24,8 @@ listed_end (end.Refused n) = record { refusal = n; at = 0 }
 listed_end (end.At at) = record { refusal = 0; at = at }
 
 -- a function that finds an end answers it, and the same number and value
-abbrev pub Ends : End → End → Type 0
-Ends r e = (r ≡ e) × (listed_end r ≡ listed_end e)
+abbrev pub Ends : Result ℕ Refusal → End → Type 0
+Ends r e = (as_end r ≡ e) × (listed_end (as_end r) ≡ listed_end e)
 
 -- so many octets more
 abbrev pub room_end : ℕ → ℕ → ℕ → End

@@ -7,3 +7,4 @@ pub mod Ends
 pub mod Tables
 pub mod Categories
 pub mod Presence
+pub mod End

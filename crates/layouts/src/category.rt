@@ -1,196 +1,55 @@
-// The categories: a type for each, with its constants (document 01, "Block and field specification").
-ghost use Rattle.std.specs.Prelude.{◌≡◌};
-ghost use Rattle.layouts.specs.Categories.{cat23, cat65, cat242, known, category, field_at, field_marks, unused_marks};
-ghost use Rattle.layouts.specs.Presence.{mandatory, needs_of};
+// The categories: what each gives (document 01, "Block and field specification"), and the same by its CAT.
+ghost use Rattle.std.specs.Prelude.{◌≡◌, ℕ};
+ghost use Rattle.layouts.specs.Categories.{known, category, field_at, field_marks, unused_marks};
+ghost use Rattle.layouts.specs.Presence.{mandatory, needs_of, rule_at};
 
+pub use crate::cat23::Cat23;
+pub use crate::cat65::Cat65;
+pub use crate::cat242::Cat242;
 use crate::ends::Kind;
 use crate::form::Form;
+use crate::presence::Rule;
 
 // What stands at a field: its form, and its kind with the sizes.
 #[derive(Clone, Copy)]
 pub struct Field(pub Form, pub Kind);
 
-pub const SPARE: Field = Field(Form::Spare, Kind::Spare);
-
-#[derive(Clone, Copy)]
-pub struct Cat23;
-
-impl Cat23 {
-    pub const CAT: u8 = 23;
-
-    // The most specification octets.
-    pub const MOST: u8 = 2;
-
-    // Bit f - 1 is field f: 000 and 070.
-    pub const MANDATORY: u32 = 0b1010;
-
-    // The spare fields, 10 to 12, and those past the last.
-    pub const UNUSED: u32 = 0xFFFF_CE00;
-
-    // The value of 000 in a statistics report, and the fields of what it is told by: 010, 015 and 120.
-    pub const STATISTICS: u8 = 3;
-
-    pub const F010: usize = 1;
-
-    pub const F015: usize = 3;
-
-    pub const F120: usize = 9;
-
-    pub const I010: Field = Field(Form::Source, Kind::Fixed(2));
-
-    pub const I000: Field = Field(Form::MessageType, Kind::Fixed(1));
-
-    pub const I015: Field = Field(Form::Service, Kind::Fixed(1));
-
-    pub const I070: Field = Field(Form::Time, Kind::Fixed(3));
-
-    pub const I100: Field = Field(Form::Station, Kind::Extended(1, 1));
-
-    pub const I101: Field = Field(Form::Configuration, Kind::Extended(2, 1));
-
-    pub const I200: Field = Field(Form::Range, Kind::Fixed(1));
-
-    pub const I110: Field = Field(Form::Status, Kind::Extended(1, 0));
-
-    // The octets of an entry of 120.
-    pub const ENTRY: usize = 6;
-
-    pub const I120: Field = Field(Form::Statistics, Kind::Repeated(Self::ENTRY as u8));
-
-    pub const RE: Field = Field(Form::Expansion, Kind::Explicit);
-
-    pub const SP: Field = Field(Form::Purpose, Kind::Explicit);
-
-    fn field(f: usize) -> Field
-        ensures { result ≡ field_at cat23 f }
-    {
-        match f {
-            Self::F010 => Self::I010,
-            2 => Self::I000,
-            Self::F015 => Self::I015,
-            4 => Self::I070,
-            5 => Self::I100,
-            6 => Self::I101,
-            7 => Self::I200,
-            8 => Self::I110,
-            Self::F120 => Self::I120,
-            13 => Self::RE,
-            14 => Self::SP,
-            _ => SPARE,
-        }
-    }
+impl Field {
+    pub const SPARE: Field = Field(Form::Spare, Kind::Spare);
 }
 
-#[derive(Clone, Copy)]
-pub struct Cat65;
+// What a category gives, as a type with these constants. The constants are held to the definitions where they are given by CAT, below.
+pub trait Category {
+    ghost CAT: { ℕ };
 
-impl Cat65 {
-    pub const CAT: u8 = 65;
-
-    // The most specification octets.
-    pub const MOST: u8 = 2;
-
-    // Bit f - 1 is field f: 010, 000, 015 and 030.
-    pub const MANDATORY: u32 = 0b1111;
-
-    // The spare fields, 8 to 12, and those past the last.
-    pub const UNUSED: u32 = 0xFFFF_CF80;
-
-    // The values of 000 (000 §5.2.1).
-    pub const SDPS_STATUS: u8 = 1;
-
-    pub const END_OF_BATCH: u8 = 2;
-
-    pub const SERVICE_STATUS_REPORT: u8 = 3;
-
-    pub const I010: Field = Field(Form::Source, Kind::Fixed(2));
-
-    pub const I000: Field = Field(Form::MessageType, Kind::Fixed(1));
-
-    pub const I015: Field = Field(Form::Identification, Kind::Fixed(1));
-
-    pub const I030: Field = Field(Form::Time, Kind::Fixed(3));
-
-    pub const I020: Field = Field(Form::Batch, Kind::Fixed(1));
-
-    pub const I040: Field = Field(Form::Sdps, Kind::Fixed(1));
-
-    pub const I050: Field = Field(Form::Report, Kind::Fixed(1));
-
-    pub const RE: Field = Field(Form::Expansion, Kind::Explicit);
-
-    pub const SP: Field = Field(Form::Purpose, Kind::Explicit);
-
-    fn field(f: usize) -> Field
-        ensures { result ≡ field_at cat65 f }
-    {
-        match f {
-            1 => Self::I010,
-            2 => Self::I000,
-            3 => Self::I015,
-            4 => Self::I030,
-            5 => Self::I020,
-            6 => Self::I040,
-            7 => Self::I050,
-            13 => Self::RE,
-            14 => Self::SP,
-            _ => SPARE,
-        }
-    }
-}
-
-#[derive(Clone, Copy)]
-pub struct Cat242;
-
-impl Cat242 {
-    pub const CAT: u8 = 242;
+    const CAT: u8;
 
     // The most specification octets.
-    pub const MOST: u8 = 1;
+    const MOST: u8;
 
-    // Bit f - 1 is field f: 010, 140 and 550.
-    pub const MANDATORY: u32 = 0b111;
+    // The marks that every record has: bit f - 1 is field f.
+    const MANDATORY: u32;
 
-    // The spare fields, 4 and 5, and those past the last.
-    pub const UNUSED: u32 = 0xFFFF_FF98;
+    // The marks that no record has: of 32 fields those that are spare, or past the last.
+    const UNUSED: u32;
 
-    pub const I010: Field = Field(Form::Source, Kind::Fixed(2));
-
-    pub const I140: Field = Field(Form::Time, Kind::Fixed(3));
-
-    // The octets of an entry of 550.
-    pub const ENTRY: usize = 3;
-
-    pub const I550: Field = Field(Form::Versions, Kind::Repeated(Self::ENTRY as u8));
-
-    pub const SP: Field = Field(Form::Purpose, Kind::Explicit);
-
-    pub const RE: Field = Field(Form::Expansion, Kind::Explicit);
-
+    // What stands at a field; a field past the last is spare.
     fn field(f: usize) -> Field
-        ensures { result ≡ field_at cat242 f }
-    {
-        match f {
-            1 => Self::I010,
-            2 => Self::I140,
-            3 => Self::I550,
-            6 => Self::SP,
-            7 => Self::RE,
-            _ => SPARE,
-        }
-    }
+        ensures { result ≡ field_at (category CAT) f };
+
+    // What a record of a type has at a field.
+    fn rule(message_type: u8, f: usize) -> Rule
+        ensures { result ≡ rule_at CAT message_type f };
 }
+
+// The functions below take a CAT, and a type, as any octet, since each octet is answered: what no category has is none of them. Each picks its own, as a
+// type is no value that one function could hand out.
 
 // Whether the box reads a category.
 pub fn is_known(cat: u8) -> bool
     ensures { result ≡ known cat }
 {
-    match cat {
-        Cat23::CAT => true,
-        Cat65::CAT => true,
-        Cat242::CAT => true,
-        _ => false,
-    }
+    matches!(cat, Cat23::CAT | Cat65::CAT | Cat242::CAT)
 }
 
 // The most specification octets of a category.
@@ -237,6 +96,6 @@ pub fn field_of(cat: u8, f: usize) -> Field
         Cat23::CAT => Cat23::field(f),
         Cat65::CAT => Cat65::field(f),
         Cat242::CAT => Cat242::field(f),
-        _ => SPARE,
+        _ => Field::SPARE,
     }
 }

@@ -5,13 +5,14 @@ use Prim.Native.Nat.{ℕ, zero, suc, ◌+◌, ◌-◌, ◌≤◌, ◌<◌}
 use native.Mathlib.Nat.{le_of_suc-le-suc, not-suc-le-zero}
 use native.Mathlib.Omega.{arith}
 use lib.Dec.{eqb}
-use lib.ListN.{length, get_or, take, drop, set, replicate, length-append, length-take, length-drop, length-set, get_or-append}
+use lib.ListN.{length, get_or, take, drop, set, length-append, length-take, length-drop, length-set, get_or-append}
 use lib.Seq.{sets, sets-eq, length-sets, length-take-le, get_or-append-add, get_or-take, get_or-drop, get_or-set_same, get_or-set_other}
 use borrow.Author.Tests.{eqb-true, eqb-false}
+use Rattle.std.specs.List.{CopiedTo, SameBelow}
 use Rattle.octets.proofs.Cases.{test}
 use Rattle.rows.specs.Rows.{Row, new_row}
 use Rattle.rows.proofs.Cases.{compare}
-use Rattle.ledger.specs.Ledgers.{head, ledger_cells, row_cells, row_place, row_in, count_of, rows_of, cells_of, put_row}
+use Rattle.ledger.specs.Ledgers.{head, wide, ledger_cells, row_cells, row_place, row_in, count_of, rows_of, cells_of, put_row}
 use Rattle.ledger.specs.Steps.{Kept}
 use Rattle.ledger.proofs.CellLaws.{row-wide, row_is, row_same, rows-many, cells_long, count-back, row_get, cells_are}
 
@@ -47,17 +48,6 @@ module _ (l : List ℕ) (o : ℕ) (p : List ℕ) (fits : o + length p ≤ length
 
 -- A row put into a place
 
--- by its numbers, one after the other
-pub put_numbers : (cells : List ℕ) (i : ℕ) (r : Row)
-    → set (set (set (set cells (row_place i + 0) r.key) (row_place i + 1) r.life) (row_place i + 2) r.reading) (row_place i + 3) r.time
-    ≡ put_row cells i r
-put_numbers cells i r =
-    let a : row_place i + 0 ≡ row_place i = omega arith in
-    let b : row_place i + 1 ≡ suc (row_place i) = omega arith in
-    let c : row_place i + 2 ≡ suc (suc (row_place i)) = omega arith in
-    let d : row_place i + 3 ≡ suc (suc (suc (row_place i))) = omega arith in
-    (λ p. set (set (set (set cells (a p) r.key) (b p) r.life) (c p) r.reading) (d p) r.time)
-
 module _ (cells : List ℕ) (long : length cells ≡ ledger_cells) (i : ℕ) (h : i < 256) (r : Row) where
   fits : row_place i + length (row_cells r) ≤ length cells
   fits = omega arith
@@ -84,20 +74,7 @@ pub record Emptied (cells : List ℕ) (i : ℕ) : Type 0 where
   pub count : count_of cells ≡ 0
   pub empty : (j : ℕ) → j < i → row_in cells j ≡ new_row 0
 
-pub emptied_none : Emptied (replicate ledger_cells 0) 0
-emptied_none = record { long = refl; count = refl; empty = λ j h. absurd (omega arith) }
-
 module _ (cells : List ℕ) (i : ℕ) (w : Emptied cells i) where
-  -- one place more
-  pub emptied_more : i < 256 → (r : Row) → r ≡ new_row 0 → Emptied (put_row cells i r) (i + 1)
-  emptied_more h r e = record {
-    long = put-long cells w.long i h r;
-    count = put-head cells w.long i h r 0 (omega arith) ∙ w.count;
-    empty = λ j l. test (eqb j i)
-        (λ t. subst (λ k. row_in (put_row cells i r) k ≡ new_row 0) (sym (eqb-true j i t)) (put-own cells w.long i h r ∙ e))
-        (λ f. put_other cells w.long i h r j (eqb-false j i f) ∙ w.empty j (omega (arith, eqb-false j i f)));
-  }
-
   -- all of them: the ledger without rows
   pub emptied_all : 256 ≤ i → cells ≡ cells_of []
   emptied_all h = cells_are [] cells w.long (omega arith) w.count (λ j l. w.empty j (omega arith))
@@ -122,7 +99,7 @@ set-row rows i x few h =
     (λ e. subst (λ n. row_in (put_row cells i x) n ≡ x) (sym e) (put-own cells long i (omega arith) x))
     (λ n. put_other cells long i (omega arith) x j n ∙ row_get rows j (omega arith)))
 
--- A place opened: from the last place down, each takes the row that stood before it
+-- A place opened: each behind it takes the row that stood before it
 
 pub record Shifted (cells after : List ℕ) (j : ℕ) : Type 0 where
   pub long : length after ≡ ledger_cells
@@ -130,21 +107,16 @@ pub record Shifted (cells after : List ℕ) (j : ℕ) : Type 0 where
   pub low : (q : ℕ) → q ≤ j → row_in after q ≡ row_in cells q
   pub high : (q : ℕ) → j < q → q < 256 → row_in after q ≡ row_in cells (q - 1)
 
--- nothing has moved
-pub shifted_none : (cells : List ℕ) → length cells ≡ ledger_cells → Shifted cells cells 255
-shifted_none cells h = record { long = h; own = λ q l. refl; low = λ q l. refl; high = λ q l m. absurd (omega arith) }
-
--- one row more
-pub shifted_more : (cells after : List ℕ) (j : ℕ) → 0 < j → j < 256 → Shifted cells after j → (r : Row) → r ≡ row_in after (j - 1)
-    → Shifted cells (put_row after j r) (j - 1)
-shifted_more cells after j p h s r e = record {
-  long = put-long after s.long j h r;
-  own = λ q l. put-head after s.long j h r q l ∙ s.own q l;
-  low = λ q l. put_other after s.long j h r q (λ z. omega arith) ∙ s.low q (omega arith);
-  high = λ q l m. test (eqb q j)
-      (λ t. let z = eqb-true q j t in
-      subst (λ n. row_in (put_row after j r) n ≡ row_in cells (n - 1)) (sym z) (put-own after s.long j h r ∙ e ∙ s.low (j - 1) (omega arith)))
-      (λ f. put_other after s.long j h r q (eqb-false q j f) ∙ s.high q (omega (arith, eqb-false q j f)) m);
+-- the numbers from a place's on moved to where the next place's begin
+pub shifted : (cells after : List ℕ) (i : ℕ) → length after ≡ ledger_cells → SameBelow cells after (row_place i + wide)
+    → CopiedTo cells after (row_place i) (row_place i + wide) (ledger_cells - wide - row_place i) → Shifted cells after i
+shifted cells after i h below moved = record {
+  long = h;
+  own = λ q l. below q 0 (omega arith);
+  low = λ q l. row_same after cells q q (λ k m. below (row_place q + k) 0 (omega arith));
+  high = λ q l m. row_same after cells q (q - 1) (λ k n.
+      let e : row_place i + (row_place q + k - (row_place i + wide)) ≡ row_place (q - 1) + k = omega arith in
+      moved (row_place q + k) 0 (omega arith) (omega arith) ∙ ap (λ p. get_or cells p 0) e);
 }
 
 -- one row more at a place: what stands before it, there, and behind it

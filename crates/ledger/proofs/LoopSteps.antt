@@ -1,28 +1,29 @@
 -- The steps of the loops over a report's entries. Assumes nothing.
 use mathlib.Core.Bool.{Bool, true, false, ◌||◌}
 use mathlib.Core.List.{List, [], ◌∷◌}
-use mathlib.Core.Path.{◌≡◌, refl, ap, sym, ◌∙◌, subst}
+use mathlib.Core.Path.{◌≡◌, refl, ap, sym, ◌∙◌}
 use Prim.Native.Nat.{ℕ, ◌+◌, ◌≤◌, ◌<◌, ◌^◌}
 use native.Mathlib.Omega.{arith}
 use lib.Dec.{leb}
 use lib.ListN.{length, get_or, set, replicate, length-set}
 use borrow.Author.Tests.{le-leb}
 use Rattle.octets.specs.Choice.{pick}
+use Rattle.octets.specs.Refusals.{number_of, life_passes}
+use Rattle.octets.specs.declared.refusal.Refusal.{Refusal}
 use Rattle.octets.proofs.Cases.{neither}
-use Rattle.blocks.specs.Statistics.{latest_time, report_entry}
-use Rattle.blocks.specs.declared.statistics.Entry.{Entry as Counter}
+use Rattle.octets.proofs.Refusals.{number-some}
+use Rattle.blocks.specs.Statistics.{report_entry}
+use Rattle.blocks.specs.Statistics.{Entry as Counter}
 use Rattle.blocks.specs.declared.statistics.Statistics.{Statistics}
 use Rattle.rows.specs.Rows.{Row, Entry, add_up, row_of, has, life_of}
 use Rattle.rows.specs.Posting.{new_keys, rows_for, add_entry, add_all, passes}
 use Rattle.rows.proofs.Rows.{rows_step, few-new}
-use Rattle.rows.proofs.Posts.{good_add}
-use Rattle.rows.proofs.Theorems.{adding_key, adding_under}
+use Rattle.rows.proofs.Theorems.{adding_key}
 use Rattle.ledger.specs.Ledgers.{count_of, rows_of, cells_of}
 use Rattle.ledger.specs.Reports.{first_key, entry_of, entries_at}
 use Rattle.ledger.specs.Steps.{Kept}
-use Rattle.ledger.proofs.CellLaws.{rows-many, rows_back, kept_of}
+use Rattle.ledger.proofs.CellLaws.{rows-many, rows_back}
 use Rattle.ledger.proofs.EntryLaws.{entries-long, Nth, left, left-all, left-next, left-none}
-use Rattle.ledger.proofs.NarrowLaws.{Few, entry-few, add_narrow}
 use Rattle.ledger.proofs.NotedLaws.{seen_none, seen_again, Counted, counted-more}
 
 -- `has_room`
@@ -97,24 +98,31 @@ module _ (cells s : List ℕ) (r : Statistics) where
 
 -- `add_all` and `post_known`
 
+-- an answer that is 15 where a life count passes tells whether one does
+pub past-err : (b : Bool) (r : Refusal) → number_of r ≡ pick b life_passes 0 → (b ≡ true) × (number_of r ≡ life_passes)
+past-err true r e = (refl, e)
+past-err false r e = absurd (number-some r e)
+
+pub past-ok : (b : Bool) → ◌≡◌ {A = ℕ} 0 (pick b life_passes 0) → b ≡ false
+past-ok true e = cc
+past-ok false e = refl
+
 -- at entry i: the ledger has room for the entries left, one of them passes if one of all does, and with them its rows are those that are asked for
 pub record AddLoop (start s : List ℕ) (r : Statistics) (cells : List ℕ) (i : ℕ) : Type 0 where
-  pub kept : Kept cells
   pub room : rows_for (rows_of cells) (left s r i) ≤ 256
   pub past : passes add_up (rows_of cells) (left s r i) ≡ passes add_up (rows_of start) (entries_at s r)
   pub same : add_all add_up (rows_of cells) (left s r i) ≡ add_all add_up (rows_of start) (entries_at s r)
 
 module _ (start s : List ℕ) (r : Statistics) where
   -- at first it is as it was
-  pub add_none : Kept start → rows_for (rows_of start) (entries_at s r) ≤ 256 → AddLoop start s r start 0
-  add_none k h = record {
-    kept = k;
+  pub add_none : rows_for (rows_of start) (entries_at s r) ≤ 256 → AddLoop start s r start 0
+  add_none h = record {
     room = rw (left-all s r) h;
     past = ap (passes add_up (rows_of start)) (left-all s r);
     same = ap (add_all add_up (rows_of start)) (left-all s r);
   }
 
-  module _ (cells : List ℕ) (i : ℕ) (c : AddLoop start s r cells i) where
+  module _ (cells : List ℕ) (k : Kept cells) (i : ℕ) (c : AddLoop start s r cells i) where
     -- at the end none has passed, and its rows are those that are asked for
     pub add_end : r.count ≤ i
         → (false ≡ passes add_up (rows_of start) (entries_at s r)) × (cells ≡ cells_of (add_all add_up (rows_of start) (entries_at s r)))
@@ -122,7 +130,7 @@ module _ (start s : List ℕ) (r : Statistics) where
     add_end h =
         let none = sym (left-none s r i h) in (
           ap (passes add_up (rows_of cells)) none ∙ c.past,
-          c.kept.rest ∙ ap cells_of (ap (add_all add_up (rows_of cells)) none ∙ c.same),
+          k.rest ∙ ap cells_of (ap (add_all add_up (rows_of cells)) none ∙ c.same),
         )
 
     module _ (e : Entry) (q : Nth s r e i) (less : i < r.count) where
@@ -135,7 +143,7 @@ module _ (start s : List ℕ) (r : Statistics) where
 
       -- there is room for the others
       next-room : rows_for next (left s r (i + 1)) ≤ 256
-      next-room = rw (rows_step add_up adding_key e (rows_of cells) (left s r (i + 1)) c.kept.good.rises) (rw next-left at c.room)
+      next-room = rw (rows_step add_up adding_key e (rows_of cells) (left s r (i + 1)) k.good.rises) (rw next-left at c.room)
 
       -- so it can be added up
       pub add_room : length next ≤ 256
@@ -157,13 +165,9 @@ module _ (start s : List ℕ) (r : Statistics) where
       add_low h = (neither own (passes add_up next (left s r (i + 1))) (next_past ∙ h)).0
 
       -- it does not pass, and then the others are left
-      pub add_more : first_key r + 255 < 2 ^ 32 → r.time ≤ latest_time → (m : List ℕ) → own ≡ false → m ≡ cells_of next → AddLoop start s r m (i + 1)
+      pub add_more : (m : List ℕ) → own ≡ false → m ≡ cells_of next → AddLoop start s r m (i + 1)
       unfolding add_all
-      add_more w d m low is = record {
-        kept = subst Kept (sym is) (kept_of next (
-          good_add add_up adding_key adding_under (rows_of cells) e c.kept.good add_room low,
-          add_narrow (rows_of cells) e c.kept.good.rises c.kept.narrow (subst Few (sym q) (entry-few s r i w d)),
-        ));
+      add_more m low is = record {
         room = rw rows_are next-room;
         past = rw rows_are (sym (ap (λ b. b || passes add_up next (left s r (i + 1))) low) ∙ next_past);
         same = rw rows_are (rw next-left at c.same);

@@ -1,10 +1,11 @@
 -- Keys and readings of 32 bits stay so, and times that keep their rule, where the entries have such keys, counts and times. Assumes nothing.
 use mathlib.Core.List.{List, [], ◌∷◌}
-use mathlib.Core.Bool.{◌||◌}
+use mathlib.Core.Bool.{false, ◌||◌}
 use mathlib.Core.Path.{◌≡◌, refl, ap}
 use Prim.Native.Nat.{ℕ, zero, suc, ◌+◌, ◌≤◌, ◌<◌, ◌^◌}
 use native.Mathlib.Omega.{arith}
-use lib.Dec.{eqb}
+use lib.Dec.{leb, eqb}
+use lib.ListN.{length}
 use borrow.Author.Tests.{le-leb}
 use Rattle.octets.proofs.Cases.{test}
 use Rattle.octets.specs.Numbers.{Octets}
@@ -12,24 +13,23 @@ use Rattle.blocks.specs.Statistics.{latest_time, is_statistics, statistics_of, r
 use Rattle.blocks.specs.Walks.{read_of}
 use Rattle.blocks.specs.declared.record.Record.{Record}
 use Rattle.blocks.specs.declared.statistics.Statistics.{Statistics}
-use Rattle.blocks.specs.declared.cursor.Step.{Step}
-use Rattle.blocks.specs.declared.cursor.Step.TheVariants as step
-use Rattle.blocks.specs.declared.walk.Reading.{Reading}
-use Rattle.blocks.specs.declared.walk.Reading.TheVariants as reading
+use Rattle.blocks.specs.Step.{Step}
+use Rattle.blocks.specs.Step as step
+use Rattle.blocks.specs.Reading.{Reading}
+use Rattle.blocks.specs.Reading as reading
 use Rattle.blocks.proofs.SmallLaws.{type-small, count_small}
-use Rattle.rows.specs.Rows.{Row, Entry, no_time, since_last, add_up, row_of, or_new}
+use Rattle.rows.specs.Rows.{Row, Entry, no_time, since_last, add_up, row_of, life_of, or_new}
 use Rattle.rows.specs.Posting.{Report, entries, add_entry, add_all, post_rows, Sorted, Each}
 use Rattle.rows.proofs.Rows.{sorted_add}
-use Rattle.rows.proofs.Posts.{each_or_new, each_add, post_cases}
+use Rattle.rows.proofs.Posts.{good_add, each_or_new, each_add, post_cases}
 use Rattle.rows.proofs.Theorems.{adding_key, adding_under, stays-good}
 use Rattle.ledger.specs.Reports.{first_key, entry_of, entries_from, report_in, step_at, report_at, report_by, report_of}
-use Rattle.ledger.specs.Steps.{Narrow, Ruled, Lies}
+use Rattle.ledger.specs.Ledgers.{rows_of, cells_of}
+use Rattle.ledger.specs.Steps.{Narrow, Ruled, Kept, Few, Lies}
+use Rattle.ledger.proofs.CellLaws.{kept_of}
 use Rattle.ledger.proofs.ReportLaws.{lies, some-step}
 
 -- Entries
-
-abbrev pub Few : Entry → Type 0
-Few e = (e.key < 2 ^ 32) × (e.count < 2 ^ 32) × (e.time ≤ latest_time)
 
 abbrev pub Fit : List Entry → Type 0
 Fit [] = Unit {0}
@@ -75,6 +75,16 @@ pub add_narrow : (rows : List Row) (e : Entry) → Sorted rows → Each Narrow r
 add_narrow rows e s n f =
     each_add add_up adding_key Narrow rows e s n
     (up-narrow (or_new e.key (row_of rows e.key)) e (each_or_new Narrow rows e.key n (f.0, omega arith, refl)) f)
+
+-- a ledger that keeps the rules keeps them with an entry added up, where there is room and its life count does not pass
+module _ (cells : List ℕ) (k : Kept cells) (e : Entry) (few : Few e) where
+  abbrev after : List Row
+  after = add_entry add_up (rows_of cells) e
+
+  pub added_kept : length after ≤ 256 → leb (2 ^ 64) (life_of (row_of after e.key)) ≡ false → Kept (cells_of after)
+  added_kept room low =
+      let rows = rows_of cells in
+      kept_of after (good_add add_up adding_key adding_under rows e k.good room low, add_narrow rows e k.good.rises k.narrow few)
 
 all-narrow : (rows : List Row) (es : List Entry) → Sorted rows → Each Narrow rows → Fit es → Each Narrow (add_all add_up rows es)
 unfolding add_all

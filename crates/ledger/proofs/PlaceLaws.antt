@@ -1,21 +1,20 @@
 -- The place that a key has among rows: what it says of the key's row, and of rows with an entry added up. Assumes nothing.
-use mathlib.Core.Bool.{true, false, true≢false}
 use mathlib.Core.List.{List, [], ◌∷◌, ◌++◌}
-use mathlib.Core.Option.{none, some}
+use mathlib.Core.Option.{Option, none, some}
 use mathlib.Core.Path.{◌≡◌, refl, ap, sym, ◌∙◌}
 use Prim.Native.Nat.{ℕ, zero, suc, ◌≤◌, ◌<◌}
 use native.Mathlib.Nat.{le_of_suc-le-suc, not-suc-le-zero}
 use native.Mathlib.Omega.{arith}
-use lib.Dec.{ltb, eqb}
+use lib.Dec.{eqb}
 use lib.ListN.{length, get_or, take, drop, set}
-use borrow.Author.Tests.{lt-ltb, le-ltb, ltb-true, ltb-false, eq-eqb, ne_eqb, eqb-true, eqb-false}
+use borrow.Author.Tests.{lt-ltb, le-ltb, eq-eqb, ne_eqb, eqb-true, eqb-false}
 use Rattle.octets.proofs.Cases.{test}
-use Rattle.rows.specs.Rows.{Row, Entry, new_row, add_up, row_of, has, life_of, or_new}
+use Rattle.rows.specs.Rows.{Row, Entry, new_row, add_up, row_of, life_of, or_new}
 use Rattle.rows.specs.Posting.{add_entry, Sorted}
 use Rattle.rows.proofs.Rows.{head-row, tail_row, before-none, row-own, length_add}
 use Rattle.rows.proofs.Theorems.{adding_key}
 use Rattle.ledger.specs.Ledgers.{row_in, count_of, rows_of, cells_of, put_row}
-use Rattle.ledger.specs.Steps.{Kept, KeyPlace, RowAt}
+use Rattle.ledger.specs.Steps.{Kept, RowAt, GapAt}
 use Rattle.ledger.proofs.CellLaws.{rows-many, rows_get, kept-long, kept-rising}
 use Rattle.ledger.proofs.ChangeLaws.{put-head, put-own, put_other, set-row}
 
@@ -95,70 +94,38 @@ module _ (rule : Row → Entry → Row) where
       past_first r rows e (first_below r rows e.key i m.placed)
       ∙ ap (λ l. r ∷ l) (missed_add rows e i (rest_missed r rows e.key i m))
 
--- A place found among a ledger's rows
-
-module _ (cells : List ℕ) (k i : ℕ) (f : KeyPlace cells k i) where
-  -- it is a place among them
-  found-placed : Placed (rows_of cells) k i
-  found-placed = record {
-    within = omega (arith, f.within, rows-many cells);
-    below = λ j h. omega (arith, f.below j h, ap (λ r. r.key) (rows_get cells j (omega (arith, f.within))));
-  }
-
-  -- the key has its row there
-  module _ (a : RowAt cells k i) where
-    found-met : Met (rows_of cells) k i
-    found-met = record {
-      placed = found-placed;
-      inside = omega (arith, a.inside, rows-many cells);
-      same = ap (λ r. r.key) (rows_get cells i a.inside) ∙ a.same;
-    }
-
-    pub found-row : row_of (rows_of cells) k ≡ some (row_in cells i)
-    found-row = met-row (rows_of cells) k i found-met ∙ ap some (rows_get cells i a.inside)
-
-  -- it does not
-  module _ (other : RowAt cells k i → ⊥) where
-    found_missed : Missed (rows_of cells) k i
-    found_missed = record {
-      placed = found-placed;
-      above = λ h.
-          let m : i < count_of cells = omega (arith, rows-many cells) in
-          let n : (row_in cells i).key ≡ k → ⊥ = λ q. other (record { inside = m; same = q }) in
-          omega (arith, f.above m, ap (λ r. r.key) (rows_get cells i m));
-    }
-
-    pub found_none : Kept cells → row_of (rows_of cells) k ≡ none
-    found_none g = missed_row (rows_of cells) k i g.good.rises found_missed
-
-  -- whether it does is told by the test of the place
-  pub found-has : Kept cells → i < count_of cells → eqb (row_in cells i).key k ≡ has (row_of (rows_of cells) k)
-  found-has g h =
-      test (eqb (row_in cells i).key k) (λ t. t ∙ sym (ap has (found-row (record { inside = h; same = eqb-true _ k t }))))
-      (λ n. n ∙ sym (ap has (found_none (λ a. eqb-false _ k n a.same) g)))
-
-  -- and tells it
-  pub has_not : has (row_of (rows_of cells) k) ≡ false → RowAt cells k i → ⊥
-  has_not n a = true≢false (sym (ap has (found-row a)) ∙ n)
-
-  pub has-at : Kept cells → has (row_of (rows_of cells) k) ≡ true → RowAt cells k i
-  has-at g t =
-      test (ltb i (count_of cells))
-      (λ l. let h = ltb-true i (count_of cells) l in record { inside = h; same = eqb-true _ k (found-has g h ∙ t) })
-      (λ l. absurd (true≢false (sym t ∙ ap has (found_none (λ a. omega (arith, a.inside, ltb-false i (count_of cells) l)) g))))
-
 -- A key that has its row at a place
 
 module _ (cells : List ℕ) (g : Kept cells) (k i : ℕ) (a : RowAt cells k i) where
-  at-found : KeyPlace cells k i
-  at-found = record {
-    within = omega (arith, a.inside);
-    below = λ j h. omega (arith, kept-rising cells g j i h a.inside, a.same);
-    above = λ h. omega (arith, a.same);
+  at-met : Met (rows_of cells) k i
+  at-met = record {
+    placed = record {
+      within = omega (arith, a.inside, rows-many cells);
+      below = λ j h. omega (arith, kept-rising cells g j i h a.inside, a.same, ap (λ r. r.key) (rows_get cells j (omega (arith, a.inside))));
+    };
+    inside = omega (arith, a.inside, rows-many cells);
+    same = ap (λ r. r.key) (rows_get cells i a.inside) ∙ a.same;
   }
 
   pub at_row : row_of (rows_of cells) k ≡ some (row_in cells i)
-  at_row = found-row cells k i at-found a
+  at_row = met-row (rows_of cells) k i at-met ∙ ap some (rows_get cells i a.inside)
+
+-- A key that has none, and the place where one would stand
+
+module _ (cells : List ℕ) (k i : ℕ) (f : GapAt cells k i) where
+  gap_missed : Missed (rows_of cells) k i
+  gap_missed = record {
+    placed = record {
+      within = omega (arith, f.within, rows-many cells);
+      below = λ j h. omega (arith, f.below j h, ap (λ r. r.key) (rows_get cells j (omega (arith, f.within))));
+    };
+    above = λ h.
+        let m : i < count_of cells = omega (arith, rows-many cells) in
+        omega (arith, f.above i (omega arith) m, ap (λ r. r.key) (rows_get cells i m));
+  }
+
+  pub gap_none : Kept cells → row_of (rows_of cells) k ≡ none
+  gap_none g = missed_row (rows_of cells) k i g.good.rises gap_missed
 
 -- with a row of the same key put into a place it stays where it is
 pub put-stays : (cells : List ℕ) → Kept cells → (i : ℕ) → i < 256 → (x : Row) → x.key ≡ (row_in cells i).key
@@ -183,7 +150,7 @@ module _ (rule : Row → Entry → Row) (cells : List ℕ) (g : Kept cells) (e :
       ap (λ c. put_row c i x) g.rest
       ∙ set-row rows i x g.good.few (omega (arith, a.inside, rows-many cells))
       ∙ ap (λ r. cells_of (set rows i (rule r e))) (sym (rows_get cells i a.inside))
-      ∙ ap cells_of (sym (met_add rule rows e i (found-met cells e.key i (at-found cells g e.key i a) a)))
+      ∙ ap cells_of (sym (met_add rule rows e i (at-met cells g e.key i a)))
 
 -- An entry added up to its key's row or to a new one
 
@@ -192,22 +159,22 @@ module _ (cells : List ℕ) (g : Kept cells) (e : Entry) where
   rows = rows_of cells
 
   -- its life count
-  pub own-life : life_of (row_of (add_entry add_up rows e) e.key) ≡ (add_up (or_new e.key (row_of rows e.key)) e).life
-  own-life = ap life_of (row-own add_up adding_key e rows g.good.rises)
+  own-life : (o : Option Row) → row_of rows e.key ≡ o → (add_up (or_new e.key o) e).life ≡ life_of (row_of (add_entry add_up rows e) e.key)
+  own-life o is = sym (ap life_of (row-own add_up adding_key e rows g.good.rises) ∙ ap (λ p. (add_up (or_new e.key p) e).life) is)
 
-  module _ (i : ℕ) (f : KeyPlace cells e.key i) (x : Row) (is : x ≡ add_up (or_new e.key (row_of rows e.key)) e) where
-    -- the row changes
-    pub put-adds : has (row_of rows e.key) ≡ true → put_row cells i x ≡ cells_of (add_entry add_up rows e)
-    put-adds t =
-        let a = has-at cells e.key i f g t in
-        ap (put_row cells i) (is ∙ ap (λ o. add_up (or_new e.key o) e) (found-row cells e.key i f a)) ∙ row-adds add_up cells g e i a
+  pub row-life : (i : ℕ) → RowAt cells e.key i → (add_up (row_in cells i) e).life ≡ life_of (row_of (add_entry add_up rows e) e.key)
+  row-life i a = own-life (some (row_in cells i)) (at_row cells g e.key i a)
 
-    -- or there is one more, for which there is room
-    pub open_adds : has (row_of rows e.key) ≡ false → cells_of (take i rows ++ x ∷ drop i rows) ≡ cells_of (add_entry add_up rows e)
-    open_adds n =
-        let other = has_not cells e.key i f n in
-        ap (λ y. cells_of (take i rows ++ y ∷ drop i rows)) (is ∙ ap (λ o. add_up (or_new e.key o) e) (found_none cells e.key i f other g))
-        ∙ ap cells_of (sym (missed_add add_up rows e i (found_missed cells e.key i f other)))
+  -- a new one stands in the gap, for which there is room
+  module _ (i : ℕ) (f : GapAt cells e.key i) where
+    no-row : row_of rows e.key ≡ none
+    no-row = gap_none cells e.key i f g
 
-  pub open_room : length (add_entry add_up rows e) ≤ 256 → has (row_of rows e.key) ≡ false → count_of cells < 256
-  open_room fits n = let one = rw n at (length_add add_up adding_key e rows g.good.rises) in omega (arith, rows-many cells)
+    pub new-life : (add_up (new_row e.key) e).life ≡ life_of (row_of (add_entry add_up rows e) e.key)
+    new-life = own-life none no-row
+
+    pub new-adds : cells_of (take i rows ++ add_up (new_row e.key) e ∷ drop i rows) ≡ cells_of (add_entry add_up rows e)
+    new-adds = ap cells_of (sym (missed_add add_up rows e i (gap_missed cells e.key i f)))
+
+    pub new-room : length (add_entry add_up rows e) ≤ 256 → count_of cells < 256
+    new-room fits = let one = rw no-row at (length_add add_up adding_key e rows g.good.rises) in omega (arith, rows-many cells)

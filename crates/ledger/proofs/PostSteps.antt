@@ -10,12 +10,12 @@ use Rattle.blocks.specs.Statistics.{is_statistics, statistics_of}
 use Rattle.blocks.specs.declared.record.Record.{Record}
 use Rattle.blocks.specs.declared.statistics.Statistics.{Statistics}
 use Rattle.rows.specs.Rows.{Entry, add_up}
-use Rattle.rows.specs.Posting.{Report, refused, counts, rows_for, passes, add_all, post_rows}
+use Rattle.rows.specs.Posting.{refused, counts, rows_for, passes, add_all, post_rows}
 use Rattle.ledger.specs.Ledgers.{answer, rows_of, cells_of, keeps_rules}
 use Rattle.ledger.specs.Reports.{entries_at, report_in, report_of}
 use Rattle.ledger.specs.Posts.{posted_to, post_of}
 use Rattle.ledger.specs.Steps.{Kept}
-use Rattle.ledger.specs.declared.Answer.{Answer}
+use Rattle.ledger.specs.Answer.{Answer}
 use Rattle.ledger.proofs.ReportLaws.{report-other, report-counts}
 
 -- A report posted to a ledger that keeps the rules: one that is refused leaves it as it is
@@ -53,6 +53,6 @@ module _ (l : List ℕ) (s : List ℕ) (k : ℕ) where
   unfolding post_of
   post_broken e = rw e
 
-  pub post_kept : keeps_rules l ≡ true → (x : Report) → x ≡ report_of s k → (a : Answer) → a ≡ posted_to l x → a ≡ post_of l s k
+  pub post_kept : keeps_rules l ≡ true → posted_to l (report_of s k) ≡ post_of l s k
   unfolding post_of
-  post_kept e x is a h = h ∙ rw (e, is)
+  post_kept e = rw e

@@ -14,7 +14,7 @@ use Rattle.ledger.specs.Ledgers.{answer, rows_of, cells_of, keeps_rules, Held}
 use Rattle.ledger.specs.Posts.{post_of}
 use Rattle.ledger.specs.Reports.{report_of}
 use Rattle.ledger.specs.Steps.{Kept}
-use Rattle.ledger.specs.declared.Answer.{Answer}
+use Rattle.ledger.specs.Answer.{Answer}
 use Rattle.ledger.proofs.CellLaws.{rows_back, kept_of}
 use Rattle.ledger.proofs.NarrowLaws.{octets-fit, post_ruled}
 use Rattle.ledger.proofs.RuleLaws.{kept-rules, rules-kept}

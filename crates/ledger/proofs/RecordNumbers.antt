@@ -10,10 +10,10 @@ use Rattle.blocks.specs.Boundaries.{Visited}
 use Rattle.blocks.specs.Headers.{header_of}
 use Rattle.blocks.specs.Typed.{absent}
 use Rattle.blocks.specs.Walks.{read_of}
-use Rattle.blocks.specs.declared.cursor.Step.{Step}
-use Rattle.blocks.specs.declared.header.Head.{Head}
+use Rattle.blocks.specs.Step.{Step}
+use Rattle.blocks.specs.Head.{Head}
 use Rattle.blocks.specs.declared.record.Record.{Record}
-use Rattle.blocks.specs.declared.walk.Reading.{Reading}
+use Rattle.blocks.specs.Reading.{Reading}
 use Rattle.blocks.proofs.BoundaryLaws.{read-filled, visited, step_end}
 use Rattle.ledger.specs.Reports.{step_at}
 use Rattle.ledger.proofs.ReportLaws.{at_more}

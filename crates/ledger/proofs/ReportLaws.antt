@@ -2,7 +2,7 @@
 use mathlib.Core.Path.{◌≡◌, refl, sym, ◌∙◌}
 use mathlib.Core.Bool.{Bool, true, false, ◌&&◌, false≢true}
 use mathlib.Core.List.{List}
-use Prim.Native.Nat.{ℕ, zero, suc, ◌-◌, ◌<◌, ◌≤◌}
+use Prim.Native.Nat.{ℕ, zero, suc, ◌<◌, ◌≤◌}
 use native.Mathlib.Omega.{arith}
 use borrow.Author.Tests.{eqb-true}
 use Rattle.octets.specs.Numbers.{Octets}
@@ -12,10 +12,10 @@ use Rattle.blocks.specs.Steps.{step_of}
 use Rattle.blocks.specs.Walks.{read_of}
 use Rattle.blocks.specs.declared.record.Record.{Record}
 use Rattle.blocks.specs.declared.cursor.Cursor.{Cursor}
-use Rattle.blocks.specs.declared.cursor.Step.{Step}
-use Rattle.blocks.specs.declared.cursor.Step.TheVariants as step
+use Rattle.blocks.specs.Step.{Step}
+use Rattle.blocks.specs.Step as step
 use Rattle.blocks.specs.declared.statistics.Statistics.{Statistics}
-use Rattle.blocks.specs.declared.walk.Reading.{Reading}
+use Rattle.blocks.specs.Reading.{Reading}
 use Rattle.blocks.proofs.SmallLaws.{step_small, step-time}
 use Rattle.blocks.proofs.StepLaws.{not_taken, of_step, by-step, entries-room}
 use Rattle.rows.specs.Posting.{refused, counts}
@@ -51,11 +51,8 @@ module _ (s : List ℕ) where
   at-stopped zero start n p l h = absurd (omega arith)
   at-stopped (suc k) start n p l h = rw (at_more, ← h)
 
-  pub at_next : (k start : ℕ) (t : Record) (c : Cursor) → 0 < k → Step.Taken t c ≡ step_of s start → step_at s k start ≡ step_at s (k - 1) c.at
-  at_next zero start t c l h = absurd (omega arith)
-  at_next (suc k) start t c l h =
-      let e : suc k - 1 ≡ k = omega arith in
-      rw (at_more, ← h, e)
+  pub at_next : (k rest start : ℕ) (t : Record) (c : Cursor) → k ≡ suc rest → Step.Taken t c ≡ step_of s start → step_at s k start ≡ step_at s rest c.at
+  at_next k rest start t c e h = rw (e, at_more, ← h)
 
   -- a record that is handed out after some steps is handed out by one
   pub some-step : (k start : ℕ) (t : Record) (c : Cursor) → Step.Taken t c ≡ step_at s k start → (p : ℕ) × (Step.Taken t c ≡ step_of s p)

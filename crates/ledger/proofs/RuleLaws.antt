@@ -13,7 +13,7 @@ use Rattle.rows.specs.Posting.{Each}
 use Rattle.rows.proofs.Cases.{either}
 use Rattle.ledger.specs.Ledgers.{row_in, count_of, rows_of, cells_of, time_keeps, row_keeps, rises, row_empty, place_keeps, keeps_rules, Held}
 use Rattle.ledger.specs.Steps.{Narrow, Kept}
-use Rattle.ledger.proofs.RuleTests.{place-past, place-row, row_first, row-rises, all_hold, rules_hold, rules-few, rules-all}
+use Rattle.ledger.proofs.RuleTests.{place-past, place-row, row_first, row-rises, all_hold, rules_each, rules-few, rules-all}
 use Rattle.ledger.proofs.CellLaws.{rows-many, rows_get, row_get, cells_are, kept-rising}
 use Rattle.ledger.proofs.RowPlaces.{each_from, each_at, sorted_from}
 
@@ -83,8 +83,8 @@ module _ (cells : List ℕ) (w : ByPlace cells) where
 
   places_tests : keeps_rules cells ≡ true
   places_tests =
-      sym (rules_hold cells w.few (all_hold (place_keeps cells) 256 (λ i n. test (ltb i (count_of cells))
-      (λ t. row_true i (ltb-true i (count_of cells) t)) (λ f. empty_true i (ltb-false i (count_of cells) f) n))))
+      sym (rules_each cells w.few) ∙ all_hold (place_keeps cells) 256 (λ i n. test (ltb i (count_of cells))
+      (λ t. row_true i (ltb-true i (count_of cells) t)) (λ f. empty_true i (ltb-false i (count_of cells) f) n))
 
 -- The facts hold of the rows, and the rows say them
 

@@ -1,12 +1,15 @@
 -- The rules place by place: what the tests of the code say of a place, and of all places together. Assumes nothing.
-use mathlib.Core.Path.{◌≡◌, refl, sym, ◌∙◌}
-use mathlib.Core.Bool.{Bool, true, false, ◌&&◌, and-false, or-true}
+use mathlib.Core.Path.{◌≡◌, refl, ap, sym, ◌∙◌}
+use mathlib.Core.Bool.{Bool, true, ◌&&◌, and-true, or-true}
 use mathlib.Core.List.{List}
-use Prim.Native.Nat.{ℕ, zero, suc, ◌+◌, ◌-◌, ◌≤◌, ◌<◌}
+use Prim.Native.Nat.{ℕ, zero, suc, ◌-◌, ◌≤◌, ◌<◌}
 use native.Mathlib.Numerals.{add-one}
 use native.Mathlib.Omega.{arith}
 use lib.Dec.{leb, eqb}
-use borrow.Author.Tests.{lt-ltb, le-ltb, leb-true, le-leb, lt-leb, eq-eqb, ne_eqb}
+use borrow.Author.Tests.{lt-ltb, le-ltb, leb-true, le-leb, lt-leb, eq-eqb}
+use Rattle.std.specs.List.{list_all, range_with_len}
+use Rattle.std.proofs.lemmas.List.Folds.{list_all-append, list_all-map}
+use Rattle.std.proofs.lemmas.List.FromFn.{map-range_with_len_more}
 use Rattle.octets.proofs.Cases.{both}
 use Rattle.rows.proofs.Cases.{compare}
 use Rattle.ledger.specs.Ledgers.{row_in, count_of, row_keeps, rises, row_empty, place_keeps, all_below, keeps_rules}
@@ -21,10 +24,6 @@ module _ (cells : List ℕ) (i : ℕ) where
   pub place-row : i < count_of cells → (rises cells i && row_keeps (row_in cells i)) ≡ place_keeps cells i
   place-row h = rw (lt-ltb i (count_of cells) h)
 
-  -- a key that is not above the one before it
-  pub row_falls : 0 < i → (row_in cells i).key ≤ (row_in cells (i - 1)).key → false ≡ rises cells i
-  row_falls p h = rw (ne_eqb i 0 (λ e. omega arith), le-ltb (row_in cells (i - 1)).key (row_in cells i).key h)
-
   -- the first key, and one that is above the one before it
   pub row_first : i ≡ 0 → rises cells i ≡ true
   row_first e = rw (eq-eqb i 0 e)
@@ -35,22 +34,21 @@ module _ (cells : List ℕ) (i : ℕ) where
 -- All places below a number
 
 module _ (p : ℕ → Bool) where
-  pub all_more : (n : ℕ) → all_below n p ≡ true → p n ≡ true → all_below (n + 1) p ≡ true
+  -- as `all` of a range has them
+  pub all_range : (n : ℕ) → list_all p (range_with_len 0 n) ≡ all_below n p
   unfolding all_below
-  all_more n h e = rw (add-one, h, e)
-
-  all_fails : (n i : ℕ) → i < n → p i ≡ false → all_below n p ≡ false
-  unfolding all_below
-  all_fails zero i l e = absurd (omega arith)
-  all_fails (suc n) i l e =
-      compare i n (λ h. rw (all_fails n i h e)) (λ q. rw (← q, e) (and-false (all_below i p))) (λ h. absurd (omega arith))
+  all_range zero = refl
+  all_range (suc n) =
+      sym (list_all-map (λ b. b) p (range_with_len 0 (suc n)))
+      ∙ ap (list_all (λ b. b)) (rw add-one at (map-range_with_len_more p 0 n n (omega arith)))
+      ∙ rw (list_all-append, list_all-map, all_range n, and-true (p n))
 
   pub all_hold : (n : ℕ) → ((i : ℕ) → i < n → p i ≡ true) → all_below n p ≡ true
   unfolding all_below
   all_hold zero h = refl
   all_hold (suc n) h = rw (all_hold n (λ i l. h i (omega arith)), h n (omega arith))
 
-  all_held : (n : ℕ) → all_below n p ≡ true → (i : ℕ) → i < n → p i ≡ true
+  pub all_held : (n : ℕ) → all_below n p ≡ true → (i : ℕ) → i < n → p i ≡ true
   unfolding all_below
   all_held zero h i l = absurd (omega arith)
   all_held (suc n) h i l =
@@ -61,19 +59,14 @@ module _ (p : ℕ → Bool) where
 
 module _ (cells : List ℕ) where
   -- too many rows
-  pub rules-many : 256 < count_of cells → false ≡ keeps_rules cells
+  pub rules-many : 256 < count_of cells → leb (count_of cells) 256 ≡ keeps_rules cells
   unfolding keeps_rules
   rules-many h = rw (lt-leb (count_of cells) 256 h)
 
-  -- a place that does not keep them
-  pub rules_fail : count_of cells ≤ 256 → (i : ℕ) → i < 256 → (b : Bool) → b ≡ place_keeps cells i → b ≡ false → false ≡ keeps_rules cells
+  -- else they hold if every place keeps them
+  pub rules_each : count_of cells ≤ 256 → all_below 256 (place_keeps cells) ≡ keeps_rules cells
   unfolding keeps_rules
-  rules_fail h i m b e f = rw (le-leb (count_of cells) 256 h, all_fails (place_keeps cells) 256 i m (sym e ∙ f))
-
-  -- every place keeps them
-  pub rules_hold : count_of cells ≤ 256 → all_below 256 (place_keeps cells) ≡ true → true ≡ keeps_rules cells
-  unfolding keeps_rules
-  rules_hold h e = rw (le-leb (count_of cells) 256 h, e)
+  rules_each h = rw (le-leb (count_of cells) 256 h)
 
   -- where the ledger keeps them, there are no more than 256 rows, and every place keeps them
   pub rules-few : keeps_rules cells ≡ true → count_of cells ≤ 256

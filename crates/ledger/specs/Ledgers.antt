@@ -6,7 +6,7 @@ use Rattle.octets.specs.Refusals.{rules_broken}
 use Rattle.rows.specs.Rows.{Row, no_time, new_row}
 use Rattle.rows.specs.Order.{upto}
 use Rattle.blocks.specs.Statistics.{latest_time}
-use Rattle.ledger.specs.declared.Answer.{Answer}
+use Rattle.ledger.specs.Answer.{Answer}
 use Rattle.ledger.specs.declared.cells.Row.{Row as CodeRow}
 
 -- The cells: first the ledger's own numbers, of which the row count is the first; then 256 places of a row's numbers

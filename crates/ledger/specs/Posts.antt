@@ -6,7 +6,7 @@ use Rattle.rows.specs.Rows.{add_up}
 use Rattle.rows.specs.Posting.{Report, post_rows}
 use Rattle.ledger.specs.Ledgers.{answer, rows_of, changed, keeps_rules}
 use Rattle.ledger.specs.Reports.{report_of}
-use Rattle.ledger.specs.declared.Answer.{Answer}
+use Rattle.ledger.specs.Answer.{Answer}
 
 -- a report posted to a ledger that keeps the rules
 abbrev pub posted_to : List ℕ → Report → Answer

@@ -6,12 +6,12 @@ use Rattle.blocks.specs.Statistics.{is_statistics, statistics_of, report_entry}
 use Rattle.blocks.specs.Steps.{step_by, step_of}
 use Rattle.blocks.specs.Walks.{read_of}
 use Rattle.blocks.specs.declared.record.Record.{Record}
-use Rattle.blocks.specs.declared.statistics.Entry.{Entry as Counter}
+use Rattle.blocks.specs.Statistics.{Entry as Counter}
 use Rattle.blocks.specs.declared.statistics.Statistics.{Statistics}
-use Rattle.blocks.specs.declared.cursor.Step.{Step}
-use Rattle.blocks.specs.declared.cursor.Step.TheVariants as step
-use Rattle.blocks.specs.declared.walk.Reading.{Reading}
-use Rattle.blocks.specs.declared.walk.Reading.TheVariants as reading
+use Rattle.blocks.specs.Step.{Step}
+use Rattle.blocks.specs.Step as step
+use Rattle.blocks.specs.Reading.{Reading}
+use Rattle.blocks.specs.Reading as reading
 use Rattle.rows.specs.Rows.{Entry, key_of}
 use Rattle.rows.specs.Posting.{Report, refused, counts}
 use Rattle.ledger.specs.declared.entries.Entry.{Entry as CodeEntry}

@@ -1,10 +1,10 @@
 -- What the functions inside the crate give each other: a ledger that keeps the rules, the place of a key, entries whose rows are known.
-use Rattle.std.specs.Prelude.{true, List, ◌≡◌, ℕ, ◌+◌, ◌*◌, ◌≤◌, ◌<◌, ◌^◌, length, get_or}
+use Rattle.std.specs.Prelude.{true, Option, Some, None, IsSome, List, ◌≡◌, ℕ, ◌+◌, ◌*◌, ◌≤◌, ◌<◌, ◌^◌, length, get_or}
 use Rattle.blocks.specs.Statistics.{latest_time, report_entry}
 use Rattle.blocks.specs.Steps.{entry_group_of}
 use Rattle.blocks.specs.declared.record.Record.{Record}
 use Rattle.blocks.specs.declared.statistics.Statistics.{Statistics}
-use Rattle.rows.specs.Rows.{Row}
+use Rattle.rows.specs.Rows.{Row, Entry}
 use Rattle.rows.specs.Posting.{Each, Good}
 use Rattle.ledger.specs.Ledgers.{row_in, count_of, rows_of, cells_of, time_keeps}
 use Rattle.ledger.specs.Reports.{first_key}
@@ -24,6 +24,10 @@ pub record Kept (cells : List ℕ) : Type 0 where
   pub good : Good (rows_of cells)
   pub narrow : Each Narrow (rows_of cells)
 
+-- an entry's key and count have 32 bits, and its time is a time of day
+abbrev pub Few : Entry → Type 0
+Few e = (e.key < 2 ^ 32) × (e.count < 2 ^ 32) × (e.time ≤ latest_time)
+
 -- a report's entries of 23/120 lie in the octets, and its time is a time of day
 pub record Reported (s : List ℕ) (r : Statistics) : Type 0 where
   pub entries : r.at + r.count * (entry_group_of 23).wide ≤ length s
@@ -39,27 +43,25 @@ pub record Lies (s : List ℕ) (t : Record) : Type 0 where
   pub styp : t.service.styp < 16
   pub day : t.time.0 ≤ latest_time
 
--- the place of a key among the rows: every key before it is smaller, and the one there, if there is one, is not
-pub record KeyPlace (cells : List ℕ) (k i : ℕ) : Type 0 where
-  pub within : i ≤ count_of cells
-  pub below : (j : ℕ) → j < i → (row_in cells j).key < k
-  pub above : i < count_of cells → k ≤ (row_in cells i).key
-
 -- a key has its row at a place
 pub record RowAt (cells : List ℕ) (k i : ℕ) : Type 0 where
   pub inside : i < count_of cells
   pub same : (row_in cells i).key ≡ k
 
--- what is noted of a report's counters, by TYPE: a place is that of the key's row, and no report brings its life count to the end; 256 is no place
-pub record Noted (cells : List ℕ) (first : ℕ) (places : List ℕ) : Type 0 where
-  pub long : length places ≡ 256
-  pub rows : (u : ℕ) → u < 256 → get_or places u 0 < 256 → RowAt cells (first + u) (get_or places u 0)
-  pub far : (u : ℕ) → u < 256 → get_or places u 0 < 256 → (row_in cells (get_or places u 0)).life + 2 ^ 40 ≤ 2 ^ 64
+-- a key has no row, and the place where one would stand: every key before it is smaller, and every one from there on is greater
+pub record GapAt (cells : List ℕ) (k i : ℕ) : Type 0 where
+  pub within : i ≤ count_of cells
+  pub below : (j : ℕ) → j < i → (row_in cells j).key < k
+  pub above : (j : ℕ) → i ≤ j → j < count_of cells → k < (row_in cells j).key
 
--- each of a report's entries has a key with a row, whose place stands by TYPE, and no report brings its life count to the end
-pub record Known (cells s : List ℕ) (r : Statistics) (places : List ℕ) : Type 0 where
-  pub few : r.count < 256
+-- what is noted of a report's counters, by TYPE: a place is that of the key's row, and no report brings its life count to the end
+pub record Noted (cells : List ℕ) (first : ℕ) (places : List (Option ℕ)) : Type 0 where
   pub long : length places ≡ 256
-  pub rows : (i : ℕ) → i < r.count
-      → RowAt cells (first_key r + (report_entry s r.at i).typ) (get_or places (report_entry s r.at i).typ 0)
-  pub far : (i : ℕ) → i < r.count → (row_in cells (get_or places (report_entry s r.at i).typ 0)).life + 2 ^ 40 ≤ 2 ^ 64
+  pub rows : (u i : ℕ) → u < 256 → get_or places u None ≡ Some i → RowAt cells (first + u) i
+  pub far : (u i : ℕ) → u < 256 → get_or places u None ≡ Some i → (row_in cells i).life + 2 ^ 40 ≤ 2 ^ 64
+
+-- each of a report's entries has a place noted
+pub record Known (cells s : List ℕ) (r : Statistics) (places : List (Option ℕ)) : Type 0 where
+  pub few : r.count < 256
+  pub noted : Noted cells (first_key r) places
+  pub each : (i : ℕ) → i < r.count → IsSome (get_or places (report_entry s r.at i).typ None)

@@ -4,9 +4,9 @@ ghost use Rattle.rows.specs.Rows.{new_row};
 ghost use Rattle.ledger.specs.Ledgers.{row_in, count_of, put_row, as_row};
 
 // How many numbers are the ledger's own, and how many are a row's; how many places there are, and how many numbers in all.
-const HEAD: usize = 1;
+pub(crate) const HEAD: usize = 1;
 
-const WIDE: usize = 4;
+pub(crate) const WIDE: usize = 4;
 
 pub const ROWS: usize = 256;
 
@@ -15,7 +15,7 @@ pub const CELLS: usize = HEAD + WIDE * ROWS;
 // The place of each: of the ledger's own numbers, and of a row's.
 pub const COUNT: usize = 0;
 
-const KEY: usize = 0;
+pub(crate) const KEY: usize = 0;
 
 const LIFE: usize = 1;
 
@@ -23,12 +23,13 @@ const READING: usize = 2;
 
 const TIME: usize = 3;
 
-// The mark that no time is known: all ones in 32 bits.
+// The mark that no time is known: all ones in 32 bits. A number, and no Option, since a lent ledger may have any
+// number there, which is told as it stands.
 pub const NO_TIME: u64 = 0xFFFF_FFFF;
 
 // A row: its counter's key, which is SAC, SIC, the octet of 015 and TYPE, the life count, the last midnight reading, and the time of the last
 // from-midnight entry, in 1/128 s, or NO_TIME.
-#[derive(Clone, Copy)]
+#[derive(Clone, Copy, PartialEq, Eq)]
 pub struct Row {
     pub key: u64,
     pub life: u64,
@@ -55,7 +56,7 @@ pub fn count_of(cells: &[u64; CELLS]) -> usize
     cells[COUNT] as usize
 }
 
-// The row at a place. For the next layer: there are 256 places.
+// The row at a place. For the next layer: there are 256 places, which each clause asks, since a place is a loop's own number or one that was found.
 pub fn row_at(cells: &[u64; CELLS], i: usize) -> Row
     requires { i < 256 }
     ensures { as_row result ≡ row_in cells.now i }

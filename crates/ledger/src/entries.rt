@@ -4,7 +4,7 @@ ghost use Rattle.ledger.specs.Reports.{first_key, entry_of, as_entry};
 
 use blocks::statistics::Statistics;
 
-// An entry: its counter's key, its report's time, REF and count.
+// An entry: its counter's key, its report's time, REF, as the bit that the items give, and count.
 #[derive(Clone, Copy)]
 pub struct Entry {
     pub key: u64,

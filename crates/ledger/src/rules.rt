@@ -1,11 +1,12 @@
 // The ledger's rules.
 ghost use Rattle.std.specs.Prelude.{◌≡◌, ◌<◌};
+ghost use Rattle.octets.specs.Refusals.{refusal_in};
 ghost use Rattle.ledger.specs.Ledgers.{row_keeps, row_empty, place_keeps, keeps_rules, rules_refusal, as_row};
 
 use crate::Ledger;
-use crate::cells::{CELLS, NO_TIME, ROWS, Row, count_of, row_at};
+use crate::cells::{CELLS, NO_TIME, ROWS, Row, count_of, new_row, row_at};
 use blocks::statistics::LATEST_TIME;
-use octets::refusal;
+use octets::refusal::Refusal;
 
 // A key and a reading are below 2^32.
 const WIDTH: u64 = 0x1_0000_0000;
@@ -14,17 +15,17 @@ const WIDTH: u64 = 0x1_0000_0000;
 fn is_row_kept(row: Row) -> bool
     ensures { result ≡ row_keeps (as_row row) }
 {
-    (row.key < WIDTH)
-        & (row.reading <= row.life)
-        & (row.reading < WIDTH)
-        & ((row.time <= LATEST_TIME as u64) | (row.time == NO_TIME))
+    row.key < WIDTH
+        && row.reading <= row.life
+        && row.reading < WIDTH
+        && (row.time <= LATEST_TIME as u64 || row.time == NO_TIME)
 }
 
 // Whether a place has no row.
 fn is_empty(row: Row) -> bool
     ensures { result ≡ row_empty (as_row row) }
 {
-    (row.key == 0) & (row.life == 0) & (row.reading == 0) & (row.time == NO_TIME)
+    row == new_row(0)
 }
 
 // Whether a place keeps the rules: a row above the one before it; no row past the row count.
@@ -33,42 +34,27 @@ fn is_place_kept(cells: &[u64; CELLS], i: usize) -> bool
     ensures { result ≡ place_keeps cells.now i }
 {
     let row = row_at(cells, i);
-    if i >= count_of(cells) {
-        return is_empty(row);
+    if i < count_of(cells) {
+        (i == 0 || row_at(cells, i - 1).key < row.key) && is_row_kept(row)
+    } else {
+        is_empty(row)
     }
-    if i > 0 {
-        let before = row_at(cells, i - 1);
-        if before.key >= row.key {
-            return false;
-        }
-    }
-    is_row_kept(row)
 }
 
 // Whether lent cells keep the rules.
 pub fn is_kept(cells: &[u64; CELLS]) -> bool
     ensures { result ≡ keeps_rules cells.now }
 {
-    if count_of(cells) > ROWS {
-        return false;
-    }
-    let mut i: usize = 0;
-    while i < ROWS {
-        if !is_place_kept(cells, i) {
-            return false;
-        }
-        i += 1;
-    }
-    true
+    count_of(cells) <= ROWS && (0..ROWS).all(|i| is_place_kept(cells, i))
 }
 
 // 16 for a ledger that breaks the rules.
-pub fn check(ledger: Ledger) -> u8
-    ensures { result ≡ rules_refusal ledger.cells }
+pub fn check(ledger: Ledger) -> Result<(), Refusal>
+    ensures { refusal_in result ≡ rules_refusal ledger.cells }
 {
-    let cells = ledger.cells;
-    if is_kept(&cells) {
-        return refusal::ACCEPTED;
+    if is_kept(&ledger.cells) {
+        Ok(())
+    } else {
+        Err(Refusal::RulesBroken)
     }
-    refusal::RULES_BROKEN
 }

@@ -4,16 +4,20 @@ use mathlib.Core.Bool.{true}
 use mathlib.Core.List.{List, [], ◌∷◌, map, map-id}
 use Prim.Native.Nat.{ℕ, zero, suc, ◌≤◌, ◌<◌, ◌^◌}
 use native.Mathlib.Omega.{arith}
+use borrow.Author.Tests.{leb-true, eqb-true}
+use lib.Dec.{leb, eqb}
 use lib.ListN.{length, get_or, length-map}
 use Rattle.octets.specs.Numbers.{Octets}
 use Rattle.octets.specs.Outcomes.{puts}
 use Rattle.octets.specs.Refusals.{rules_broken}
 use Rattle.octets.proofs.Cases.{test, both}
-use Rattle.rows.specs.Rows.{Row}
+use Rattle.rows.specs.Rows.{Row, no_time}
 use Rattle.rows.specs.Posting.{Above, Sorted, Each}
-use Rattle.ledger.specs.Ledgers.{wide, row_cells, answer, rows_of, cells_of, keeps_rules, Held}
+use Rattle.rows.proofs.Cases.{either}
+use Rattle.blocks.specs.Statistics.{latest_time}
+use Rattle.ledger.specs.Ledgers.{wide, row_cells, answer, rows_of, cells_of, time_keeps, keeps_rules, Held}
 use Rattle.ledger.specs.Steps.{Narrow, Ruled, Kept}
-use Rattle.ledger.specs.declared.Answer.{Answer}
+use Rattle.ledger.specs.Answer.{Answer}
 use Rattle.ledger.proofs.CellLaws.{cells_long, cells_small, rows_back, kept_of, ruled-none}
 use Rattle.ledger.proofs.RowPlaces.{each_from, each_at, each_everywhere}
 use Rattle.ledger.proofs.RuleLaws.{kept-rules, rules-kept}
@@ -24,9 +28,13 @@ use Rattle.pages.specs.declared.forms.Form.TheVariants as form
 use Rattle.pages.specs.declared.forms.Table.{Table}
 use Rattle.pages.proofs.PageLaws.{Small, small_in, with_parts, shown, page-back, head-says, page-rows}
 use Rattle.pages.proofs.FormLaws.{form-fits, lies}
-use Rattle.pages.proofs.PutSteps.{time-small, store_puts}
+use Rattle.pages.proofs.PutSteps.{store_puts}
 
 -- What the rules and the widths hold of rows
+
+time-small : (time : ℕ) → time_keeps time ≡ true → time < 2 ^ 32
+time-small time h =
+    either (leb time latest_time) (eqb time no_time) h (λ t. omega (arith, leb-true time latest_time t)) (λ t. omega (arith, eqb-true time no_time t))
 
 pub ruled-small : (rows : List Row) → Ruled rows → Each Small rows
 ruled-small rows w =
@@ -117,7 +125,7 @@ module _ (f : Form) where
   load_store s o cells =
       load_cases (λ a. a ≡ answer 0 cells → store_of ts cells ≡ puts s) s
       (λ h k e. subst (λ m. store_of ts m ≡ puts s) (ap (λ a. a.ledger.cells) e)
-      (store_puts ts (cells_in ts s) _ refl k ∙ ap puts (ap (page_of ts) (rows_back (rows_in ts s)) ∙ page-same s o h)))
+      (store_puts ts (cells_in ts s) k ∙ ap puts (ap (page_of ts) (rows_back (rows_in ts s)) ∙ page-same s o h)))
       (λ e. let z : rules_broken ≡ 0 = ap (λ a. a.refusal) e in absurd (omega arith))
 
   -- a page with its head has the cells of a ledger

@@ -1,34 +1,27 @@
 -- A page written: the numbers of its head, and the tables, row by row. Assumes nothing.
 use mathlib.Core.Path.{◌≡◌, refl, sym, ap, ◌∙◌}
-use mathlib.Core.Bool.{Bool, true, false}
+use mathlib.Core.Bool.{true, false}
 use mathlib.Core.List.{List, [], ◌∷◌, ◌++◌, map, append_assoc, append-nil}
-use Prim.Native.Nat.{ℕ, ◌+◌, ◌*◌, ◌≤◌, ◌<◌, ◌^◌}
-use native.Mathlib.Nat.{mul-le-mul_left, mul-le-mul_right, mul-suc}
+use Prim.Native.Nat.{ℕ, ◌+◌, ◌*◌, ◌≤◌, ◌<◌}
+use native.Mathlib.Nat.{mul-le-mul_left, mul-suc}
 use native.Mathlib.Numerals.{add-one}
 use native.Mathlib.Omega.{arith}
-use lib.Dec.{leb, eqb}
 use lib.ListN.{length, length-append}
-use borrow.Author.Tests.{leb-true, eqb-true}
 use Rattle.octets.specs.Numbers.{octets, laid}
 use Rattle.octets.specs.Outcomes.{no, puts, within}
 use Rattle.octets.specs.Refusals.{rules_broken, output_too_short}
-use Rattle.octets.specs.declared.output.Written.{Written}
+use Rattle.octets.specs.Written.{Written}
 use Rattle.octets.proofs.Numbers.{length-octets}
 use Rattle.octets.proofs.Laying.{laid_none, length-laid, laid-laid}
 use Rattle.octets.proofs.Outcomes.{Says, says-short, says-puts}
-use Rattle.rows.specs.Rows.{Row, no_time}
+use Rattle.rows.specs.Rows.{Row}
 use Rattle.rows.specs.Order.{upto}
-use Rattle.rows.proofs.Cases.{either}
-use Rattle.blocks.specs.Statistics.{latest_time}
-use Rattle.ledger.specs.Ledgers.{row_in, count_of, rows_of, table, time_keeps, keeps_rules}
-use Rattle.ledger.specs.Steps.{Kept}
-use Rattle.ledger.proofs.RuleTests.{rules-few}
-use Rattle.ledger.proofs.CellLaws.{rows-many, kept-narrow}
+use Rattle.ledger.specs.Ledgers.{row_in, count_of, rows_of, table, keeps_rules}
+use Rattle.ledger.proofs.CellLaws.{rows-many}
 use Rattle.ledger.proofs.TableLaws.{listed-many, listed_more, table-laid}
 use Rattle.pages.specs.Pages.{row_octets, row_wide, tables_of, head_long, row_long, page_length, starts, twos, tables, head_of, page_of, store_of}
 use Rattle.pages.specs.declared.forms.Form.{Form}
 use Rattle.pages.specs.declared.forms.Table.{Table}
-use Rattle.pages.specs.declared.forms.Table.TheVariants as columns
 use Rattle.pages.proofs.FormLaws.{length-new, readings-fit}
 use Rattle.pages.proofs.PageLaws.{row-wide, twos-long, head-long, tables-long, page-long}
 
@@ -40,92 +33,49 @@ behind l l' l'' o at p q n h e f = f ∙ ap (λ x. laid x at q) e ∙ rw n at (l
 -- What a table has of a row, by the table
 
 module _ (t : Table) (l l' : List ℕ) (at : ℕ) (r : Row) where
-  pub keys-laid : t ≡ Table.Keys → l' ≡ laid l at (octets 4 r.key) → l' ≡ laid l at (row_octets t r)
-  keys-laid e h = rw e h
-
-  pub times-laid : t ≡ Table.Times → l' ≡ laid l at (octets 4 r.time) → l' ≡ laid l at (row_octets t r)
-  times-laid e h = rw e h
-
   module _ (e : t ≡ Table.Readings) (room : at + row_wide t ≤ length l) where
-    pub reading-room : l' ≡ laid l at (octets 8 r.life) → at + 8 + 4 ≤ length l'
-    reading-room f =
-        let wide = length-octets 8 r.life in
-        omega (arith, room, ap row_wide e, ap length f, length-laid l at (octets 8 r.life) (omega (arith, room, ap row_wide e)))
-
     pub readings-laid : (l'' : List ℕ) → l' ≡ laid l at (octets 8 r.life) → l'' ≡ laid l' (at + 8) (octets 4 r.reading)
         → l'' ≡ laid l at (row_octets t r)
     readings-laid l'' f g =
         rw e (behind l l' l'' at (at + 8) (octets 8 r.life) (octets 4 r.reading) (rw length-octets) (omega (arith, room, ap row_wide e)) f g)
 
-wide-most : (t : Table) → row_wide t ≤ 12
-wide-most columns.Keys = omega arith
-wide-most columns.Readings = omega arith
-wide-most columns.Times = omega arith
+-- A table being filled from an offset on: the first i rows so far
 
--- A table being filled from an offset on: the first i rows of n so far
-
-pub record Filled (t : Table) (at n : ℕ) (cells out₀ out : List ℕ) (i : ℕ) : Type 0 where
-  pub kept : Kept cells
-  pub count : n ≡ count_of cells
-  pub room : at + row_wide t * n ≤ length out₀
-  pub within : i ≤ n
+pub record Filled (t : Table) (at : ℕ) (cells out₀ out : List ℕ) (i : ℕ) : Type 0 where
   pub long : length out ≡ length out₀
   pub is : out ≡ laid out₀ at (table (row_octets t) (map (row_in cells) (upto i)))
 
-module _ (t : Table) (at n : ℕ) (cells out₀ : List ℕ) where
-  pub filled_none : Kept cells → n ≡ count_of cells → at + row_wide t * n ≤ length out₀ → Filled t at n cells out₀ out₀ 0
+module _ (t : Table) (at : ℕ) (cells out₀ : List ℕ) where
+  pub filled_none : Filled t at cells out₀ out₀ 0
   unfolding upto table octets
-  filled_none kept count room = record {
-    kept = kept;
-    count = count;
-    room = room;
-    within = omega arith;
-    long = refl;
-    is = sym (laid_none out₀ at 0);
-  }
+  filled_none = record { long = refl; is = sym (laid_none out₀ at 0) }
 
-  module _ (out : List ℕ) (i : ℕ) (w : Filled t at n cells out₀ out i) where
-    -- there is room for one row more
-    pub filled-room : i < n → at + row_wide t * i + row_wide t ≤ length out
-    filled-room l = omega (arith, w.room, w.long, mul-suc (row_wide t) i, mul-le-mul_left (row_wide t) l)
+  module _ (out : List ℕ) (i : ℕ) (w : Filled t at cells out₀ out i) where
+    -- of the ledger's n rows there is room for one more
+    module _ (n : ℕ) (count : n ≡ count_of cells) (room : at + row_wide t * count_of cells ≤ length out₀) (l : i < n) where
+      filled-room : at + row_wide t * i + row_wide t ≤ length out
+      filled-room = omega (arith, w.long, mul-suc (row_wide t) i, mul-le-mul_left (row_wide t) (rw count at l))
 
-    module _ (wide : ℕ) (e : wide ≡ row_wide t) (l : i < n) where
-      pub part-fits : wide * i < 2 ^ 64
-      part-fits = rw e (omega (arith, w.kept.few, w.count, mul-le-mul_right i (wide-most t)))
+      pub part_room : (wide : ℕ) → wide ≡ row_wide t → at + wide * i + row_wide t ≤ length out
+      part_room wide e = rw e filled-room
 
-      pub part_room : at + wide * i + row_wide t ≤ length out
-      part_room = rw e (filled-room l)
+      pub filled_more : (r : Row) → r ≡ row_in cells i
+          → (out' : List ℕ) → length out' ≡ length out → out' ≡ laid out (at + row_wide t * i) (row_octets t r) → Filled t at cells out₀ out' (i + 1)
+      filled_more r q out' same e =
+          let f = row_octets t in
+          let k = row_wide t in
+          let rows = map (row_in cells) (upto i) in
+          let m : length rows ≡ i = listed-many (row_in cells) i in
+          let put = table-laid f k (row-wide t) out₀ at rows r (rw m (omega (arith, filled-room, w.long))) in
+          record {
+            long = same ∙ w.long;
+            is = e ∙ ap (λ x. laid x (at + k * i) (f r)) w.is ∙ rw m at put
+                ∙ ap (λ rs. laid out₀ at (table f rs)) (ap (λ x. rows ++ (x ∷ [])) q ∙ sym (ap (λ j. map (row_in cells) (upto j)) (add-one i) ∙ listed_more (row_in cells) i));
+          }
 
-    pub filled_more : i < n → (r : Row) → r ≡ row_in cells i
-        → (out' : List ℕ) → length out' ≡ length out → out' ≡ laid out (at + row_wide t * i) (row_octets t r) → Filled t at n cells out₀ out' (i + 1)
-    filled_more l r q out' same e =
-        let f = row_octets t in
-        let k = row_wide t in
-        let rows = map (row_in cells) (upto i) in
-        let m : length rows ≡ i = listed-many (row_in cells) i in
-        let put = table-laid f k (row-wide t) out₀ at rows r (rw m (omega (arith, filled-room l, w.long))) in
-        record {
-          kept = w.kept;
-          count = w.count;
-          room = w.room;
-          within = omega arith;
-          long = same ∙ w.long;
-          is = e ∙ ap (λ x. laid x (at + k * i) (f r)) w.is ∙ rw m at put
-              ∙ ap (λ rs. laid out₀ at (table f rs)) (ap (λ x. rows ++ (x ∷ [])) q ∙ sym (ap (λ j. map (row_in cells) (upto j)) (add-one i) ∙ listed_more (row_in cells) i));
-        }
-
-    pub filled-all : n ≤ i → out ≡ laid out₀ at (table (row_octets t) (rows_of cells))
+    pub filled-all : i ≡ count_of cells → out ≡ laid out₀ at (table (row_octets t) (rows_of cells))
     unfolding rows_of
-    filled-all l = let e : i ≡ count_of cells = omega (arith, w.within, w.count) in rw e at w.is
-
--- the numbers of a row of a ledger that keeps the rules have four octets
-pub time-small : (time : ℕ) → time_keeps time ≡ true → time < 2 ^ 32
-time-small time h =
-    either (leb time latest_time) (eqb time no_time) h (λ t. omega (arith, leb-true time latest_time t)) (λ t. omega (arith, eqb-true time no_time t))
-
-pub parts-small : (cells : List ℕ) → Kept cells → (i : ℕ) → i < count_of cells → (r : Row) → r ≡ row_in cells i
-    → (r.key < 2 ^ 32) × (r.reading < 2 ^ 32) × (r.time < 2 ^ 32)
-parts-small cells kept i l r e = let w = kept-narrow cells kept i l in rw e (w.0, w.1, time-small _ w.2)
+    filled-all e = rw e at w.is
 
 -- The head
 
@@ -153,11 +103,6 @@ module _ (a b c d : ℕ) (l l₁ l₂ l₃ l₄ : List ℕ) (room : 8 ≤ length
       let two = more-laid (a ∷ []) b 2 l l₁ l₂ refl (omega arith) one e₂ in
       let three = more-laid (a ∷ b ∷ []) c 4 l l₂ l₃ refl (omega arith) two e₃ in
       more-laid (a ∷ b ∷ c ∷ []) d 6 l l₃ l₄ refl (omega arith) three e₄
-
-  pub four-long : length l₄ ≡ length l
-  four-long =
-      let k = twos-long first-four in
-      ap length four-laid ∙ length-laid l 0 (twos first-four) (omega arith)
 
   pub five_laid : (v : ℕ) (l₅ : List ℕ) → l₅ ≡ laid l₄ 8 (octets 2 v) → l₅ ≡ laid l 0 (twos (a ∷ b ∷ c ∷ d ∷ v ∷ []))
   five_laid v l₅ e₅ = more-laid first-four v 8 l l₄ l₅ refl room four-laid e₅
@@ -257,28 +202,28 @@ module _ (f : Form) (cells : List ℕ) (n long : ℕ) (en : n ≡ count_of cells
             begun_more all cells (Table.Keys ∷ Table.Readings ∷ []) Table.Times at₃ (omega (arith, is₃, en, el)) l l₃ l₄ (omega (arith, is₃, fits)) read e₄
             ∙ ap (λ ts. laid l 0 (begun all ts (rows_of cells))) (sym (ap tables_of o))
 
--- What is answered, where the rules are kept or not
+-- What is to be put out for a ledger: 16, or its page
 
-module _ (ts : List Table) (l : List ℕ) (b : Bool) (e : b ≡ keeps_rules l) where
-  pub store_broken : b ≡ false → store_of ts l ≡ no rules_broken
+module _ (ts : List Table) (cells : List ℕ) where
+  pub store_broken : keeps_rules cells ≡ false → store_of ts cells ≡ no rules_broken
   unfolding store_of
-  store_broken f = rw (sym e ∙ f)
+  store_broken f = rw f
 
-  module _ (t : b ≡ true) where
-    pub store_few : count_of l ≤ 256
-    store_few = rules-few l (sym e ∙ t)
+  pub store_puts : keeps_rules cells ≡ true → store_of ts cells ≡ puts (page_of ts (rows_of cells))
+  unfolding store_of
+  store_puts t = rw t
 
-    pub store_puts : store_of ts l ≡ puts (page_of ts (rows_of l))
-    unfolding store_of
-    store_puts = rw (sym e ∙ t)
+-- What is answered of a page of n octets
 
-    module _ (n : ℕ) (q : n ≡ page_length ts (count_of l)) where
-      long : length (page_of ts (rows_of l)) ≡ n
-      long = page-long ts (rows_of l) ∙ ap (page_length ts) (rows-many l) ∙ sym q
+module _ (ts : List Table) (cells : List ℕ) (n : ℕ) (q : n ≡ page_length ts (count_of cells)) where
+  abbrev page : List ℕ
+  page = page_of ts (rows_of cells)
 
-      pub store_short : (out : List ℕ) → length out < n → Says out out (Written.Refused output_too_short) (within (length out) (store_of ts l))
-      store_short out h = says-short out (store_of ts l) (page_of ts (rows_of l)) store_puts (rw long h)
+  long : length page ≡ n
+  long = page-long ts (rows_of cells) ∙ ap (page_length ts) (rows-many cells) ∙ sym q
 
-      pub store_whole : (out out' : List ℕ) → n ≤ length out → out' ≡ laid out 0 (page_of ts (rows_of l))
-          → Says out out' (Written.Octets n) (within (length out) (store_of ts l))
-      store_whole out out' h is = says-puts out (store_of ts l) (page_of ts (rows_of l)) n store_puts long h out' is
+  pub store_short : (out : List ℕ) → length out < n → Says out out (Written.Refused output_too_short) (within (length out) (puts page))
+  store_short out h = says-short out (puts page) page refl (rw long h)
+
+  pub store_whole : (out out' : List ℕ) → n ≤ length out → out' ≡ laid out 0 page → Says out out' (Written.Octets n) (within (length out) (puts page))
+  store_whole out out' h is = says-puts out (puts page) page n refl long h out' is

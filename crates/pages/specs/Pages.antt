@@ -9,7 +9,7 @@ use Rattle.rows.specs.Rows.{Row, no_time, new_row}
 use Rattle.rows.specs.Order.{upto}
 use Rattle.rows.specs.Posting.{Each}
 use Rattle.ledger.specs.Ledgers.{answer, rows_of, table, cells_of, keeps_rules}
-use Rattle.ledger.specs.declared.Answer.{Answer}
+use Rattle.ledger.specs.Answer.{Answer}
 use Rattle.pages.specs.declared.forms.Form.{Form}
 use Rattle.pages.specs.declared.forms.Form.TheVariants as form
 use Rattle.pages.specs.declared.forms.Table.{Table}

@@ -17,34 +17,39 @@ pub enum Form {
     New,
 }
 
-// The octets that a table has of a row.
-pub(crate) fn row_wide(which: Table) -> usize
-    ensures { result ≡ row_wide which }
-{
-    match which {
-        Table::Keys => 4,
-        Table::Readings => 12,
-        Table::Times => 4,
+impl Table {
+    // The octets that a table has of a row.
+    pub(crate) fn row_wide(self) -> usize
+        ensures { result ≡ row_wide self }
+    {
+        match self {
+            Table::Keys => 4,
+            Table::Readings => 12,
+            Table::Times => 4,
+        }
     }
 }
 
-// The octets of a head.
-pub(crate) fn head_long(form: Form) -> usize
-    ensures { result ≡ head_long (tables_of form) }
-{
-    match form {
-        Form::Old => 8,
-        Form::New => 10,
+impl Form {
+    // The octets of a head.
+    pub(crate) fn head_long(self) -> usize
+        ensures { result ≡ head_long (tables_of self) }
+    {
+        match self {
+            Form::Old => 8,
+            Form::New => 10,
+        }
     }
-}
 
-// The octets of a page of n rows; a head has two octets for n.
-pub(crate) fn page_length(form: Form, n: usize) -> usize
-    requires { n < 2 ^ 16 }
-    ensures { result ≡ page_length (tables_of form) n }
-{
-    match form {
-        Form::Old => 8 + 16 * n,
-        Form::New => 10 + 20 * n,
+    // The octets of a page of n rows; a head has two octets for n.
+    #[tactic(auto, unfolding(crate::specs::Pages::row_long))]
+    pub(crate) fn page_length(self, n: usize) -> usize
+        requires { n < 2 ^ 16 }
+        ensures { result ≡ page_length (tables_of self) n }
+    {
+        match self {
+            Form::Old => 8 + 16 * n,
+            Form::New => 10 + 20 * n,
+        }
     }
 }

@@ -1,92 +1,93 @@
 // A page read.
-ghost use Rattle.std.specs.Prelude.{◌≡◌, [], ◌≤◌, ◌<◌, length};
-ghost use Rattle.octets.specs.Refusals.{rules_broken};
-ghost use Rattle.ledger.specs.Ledgers.{cells_of, as_row, answer};
-ghost use Rattle.pages.specs.Pages.{tables_of, page_length, row_at, head_keeps, load_of};
+ghost use Rattle.std.specs.Prelude.{◌≡◌, ◌<◌, true, false, IfOk, IfErr, IfSome, IfNone};
+ghost use Rattle.octets.specs.Refusals.{number_of, rules_broken};
+ghost use Rattle.ledger.specs.Ledgers.{as_row};
+ghost use Rattle.pages.specs.Pages.{tables_of, row_at, cells_in, head_keeps, page_keeps};
 
-use crate::forms::{Form, head_long, page_length};
+use crate::forms::Form;
+use crate::page::Page;
 use ledger::cells::{COUNT, NO_TIME, ROWS, Row, put_row};
-use ledger::rules::is_kept;
-use ledger::{Answer, Ledger, fresh};
-use octets::{read2, read4, read8, refusal};
+use ledger::kept::KeptLedger;
+use ledger::{Ledger, fresh};
+use octets::read;
+use octets::refusal::Refusal;
 
-// Whether a page's head is that of its row count, and its length too. The number at 6 is where the readings end: there the times begin, or an old page ends.
-fn is_headed(page: &[u8], form: Form) -> bool
-    ensures { result ≡ head_keeps (tables_of form) page.now }
+// Whether octets have the head of a page, which is that of its row count, and the length too. The number at 6 is where the readings end: there the
+// times begin, or an old page ends.
+fn is_headed(octets: &[u8], form: Form) -> bool
+    ensures { result ≡ head_keeps (tables_of form) octets.now }
 {
-    let size = page.len();
-    let head = head_long(form);
-    if size < head {
-        return false;
-    }
-    let n = read2(page, 0) as usize;
-    let length = page_length(form, n);
-    (n <= ROWS)
-        & (read2(page, 2) as usize == head)
-        & (read2(page, 4) as usize == head + 4 * n)
-        & (read2(page, 6) as usize == head + 16 * n)
-        & (read2(page, head - 2) as usize == length)
-        & (size == length)
+    let n = read(octets, 0, 2) as usize;
+    let head = form.head_long();
+    let length = form.page_length(n);
+    n <= ROWS
+        && read(octets, 2, 2) as usize == head
+        && read(octets, 4, 2) as usize == head + 4 * n
+        && read(octets, 6, 2) as usize == head + 16 * n
+        && read(octets, head - 2, 2) as usize == length
+        && octets.len() == length
 }
 
-// The time of row i of a page of n rows.
-fn time_in(page: &[u8], form: Form, n: usize, i: usize) -> u64
-    requires { (n ≤ 256) × (i < n) × (length page.now ≡ page_length (tables_of form) n) }
-    ensures { result ≡ (row_at (tables_of form) page.now n i).time }
-{
-    match form {
-        Form::Old => NO_TIME,
-        Form::New => read4(page, 10 + 16 * n + 4 * i) as u64,
+impl<'a> Page<'a> {
+    // The page that octets are, if they are one.
+    fn of(octets: &'a [u8], form: Form) -> Option<Page<'a>>
+        ensures some { IfSome result (λ page. (page.octets.now ≡ octets.now) × (page.form ≡ form)) }
+        ensures none { IfNone result (head_keeps (tables_of form) octets.now ≡ false) }
+    {
+        if is_headed(octets, form) {
+            let n = read(octets, 0, 2) as usize;
+            Some(Page { octets, form, n })
+        } else {
+            None
+        }
+    }
+
+    // The time of row i.
+    #[tactic(auto, unfolding(crate::specs::Pages::row_from))]
+    fn time(&self, i: usize) -> u64
+        requires { i < self.now.n }
+        ensures { result ≡ (row_at (tables_of self.now.form) self.now.octets.now self.now.n i).time }
+    {
+        match self.form {
+            Form::Old => NO_TIME,
+            Form::New => read(self.octets, 10 + 16 * self.n + 4 * i, 4),
+        }
+    }
+
+    // Row i.
+    #[tactic(auto, unfolding(crate::specs::Pages::row_from))]
+    fn row(&self, i: usize) -> Row
+        requires { i < self.now.n }
+        ensures { as_row result ≡ row_at (tables_of self.now.form) self.now.octets.now self.now.n i }
+    {
+        let head = self.form.head_long();
+        let at = head + 4 * self.n + 12 * i;
+        Row {
+            key: read(self.octets, head + 4 * i, 4),
+            life: read(self.octets, at, 8),
+            reading: read(self.octets, at + 8, 4),
+            time: self.time(i),
+        }
+    }
+
+    // The ledger of its rows, which may break the rules.
+    fn ledger(&self) -> Ledger
+        ensures { result.cells ≡ cells_in (tables_of self.now.form) self.now.octets.now }
+    {
+        let mut ledger = fresh();
+        ledger.cells[COUNT] = self.n as u64;
+        for i in 0..self.n {
+            put_row(&mut ledger.cells, i, self.row(i));
+        }
+        ledger
     }
 }
 
-// Row i of a page of n rows.
-fn row_in(page: &[u8], form: Form, n: usize, i: usize) -> Row
-    requires { (n ≤ 256) × (i < n) × (length page.now ≡ page_length (tables_of form) n) }
-    ensures { as_row result ≡ row_at (tables_of form) page.now n i }
+// The ledger of a page in either form, or 16.
+pub(crate) fn load_kept(octets: &[u8], form: Form) -> Result<KeptLedger, Refusal>
+    ensures kept { IfOk result (λ ledger. (page_keeps (tables_of form) octets.now ≡ true) × (ledger.cells ≡ cells_in (tables_of form) octets.now)) }
+    ensures broken { IfErr result (λ refusal. (page_keeps (tables_of form) octets.now ≡ false) × (number_of refusal ≡ rules_broken)) }
 {
-    let head = head_long(form);
-    let at = head + 4 * n + 12 * i;
-    Row {
-        key: read4(page, head + 4 * i) as u64,
-        life: read8(page, at),
-        reading: read4(page, at + 8) as u64,
-        time: time_in(page, form, n, i),
-    }
-}
-
-fn broken() -> Answer
-    ensures { result ≡ answer rules_broken (cells_of []) }
-{
-    let ledger = fresh();
-    Answer {
-        refusal: refusal::RULES_BROKEN,
-        ledger: ledger,
-    }
-}
-
-// The ledger of a page in either form, or 16 and a fresh one.
-pub(crate) fn load_form(page: &[u8], form: Form) -> Answer
-    ensures { result ≡ load_of (tables_of form) page.now }
-{
-    if !is_headed(page, form) {
-        return broken();
-    }
-    let n = read2(page, 0) as usize;
-    let empty = fresh();
-    let mut cells = empty.cells;
-    cells[COUNT] = n as u64;
-    let mut i: usize = 0;
-    while i < n {
-        put_row(&mut cells, i, row_in(page, form, n, i));
-        i += 1;
-    }
-    if !is_kept(&cells) {
-        return broken();
-    }
-    let ledger = Ledger { cells: cells };
-    Answer {
-        refusal: refusal::ACCEPTED,
-        ledger: ledger,
-    }
+    let page = Page::of(octets, form).ok_or(Refusal::RulesBroken)?;
+    KeptLedger::of(page.ledger()).map_err(|_| Refusal::RulesBroken)
 }

@@ -1,44 +1,40 @@
 // A page written.
-ghost use Rattle.std.specs.Prelude.{◌≡◌, ◌+◌, ◌*◌, ◌≤◌, ◌<◌, ◌^◌, length};
+ghost use Rattle.std.specs.Prelude.{◌≡◌, ◌+◌, ◌*◌, ◌≤◌, length};
 ghost use Rattle.octets.specs.Numbers.{laid};
-ghost use Rattle.octets.specs.Outcomes.{within, answer_of, output_of, listed_written, outcome_listed};
+ghost use Rattle.octets.specs.Written.{as_written};
+ghost use Rattle.octets.specs.Outcomes.{puts, within, answer_of, output_of, listed_written, outcome_listed};
 ghost use Rattle.ledger.specs.Ledgers.{count_of, rows_of, table, as_row};
-ghost use Rattle.ledger.specs.Steps.{Kept};
-ghost use Rattle.pages.specs.Pages.{row_octets, row_wide, tables_of, head_long, page_length, head_of, page_of, store_of};
+ghost use Rattle.pages.specs.Pages.{row_octets, row_wide, tables_of, head_long, page_length, head_of, page_of};
 
-use crate::forms::{Form, Table, head_long, page_length, row_wide};
-use ledger::Ledger;
-use ledger::cells::{CELLS, Row, count_of, row_at};
-use ledger::rules::is_kept;
-use octets::output::Written;
-use octets::{refusal, write2, write4, write8};
+use crate::forms::{Form, Table};
+use ledger::cells::{Row, count_of, row_at};
+use ledger::kept::KeptLedger;
+use octets::refusal::Refusal;
+use octets::write;
 
 // Writes what a table has of a row.
 fn put_part(out: &mut [u8], at: usize, which: Table, row: Row)
-    requires { (at + row_wide which ≤ length out.old) × (row.key < 2 ^ 32) × (row.reading < 2 ^ 32) × (row.time < 2 ^ 32) }
+    requires { at + row_wide which ≤ length out.old }
     ensures { out.new ≡ laid out.old at (row_octets which (as_row row)) }
 {
     match which {
-        Table::Keys => write4(out, at, row.key as u32),
+        Table::Keys => write(out, at, 4, row.key),
         Table::Readings => {
-            write8(out, at, row.life);
-            write4(out, at + 8, row.reading as u32);
+            write(out, at, 8, row.life);
+            write(out, at + 8, 4, row.reading);
         }
-        Table::Times => write4(out, at, row.time as u32),
+        Table::Times => write(out, at, 4, row.time),
     }
 }
 
-// Writes a table of a ledger that keeps the rules.
-fn put_table(out: &mut [u8], at: usize, which: Table, cells: &[u64; CELLS])
-    requires { Kept cells.now × (at + row_wide which * count_of cells.now ≤ length out.old) }
-    ensures { out.new ≡ laid out.old at (table (row_octets which) (rows_of cells.now)) }
+// Writes a table of a ledger.
+fn put_table(out: &mut [u8], at: usize, which: Table, ledger: &KeptLedger)
+    requires { at + row_wide which * count_of ledger.now.cells ≤ length out.old }
+    ensures { out.new ≡ laid out.old at (table (row_octets which) (rows_of ledger.now.cells)) }
 {
-    let n = count_of(cells);
-    let wide = row_wide(which);
-    let mut i: usize = 0;
-    while i < n {
-        put_part(out, at + wide * i, which, row_at(cells, i));
-        i += 1;
+    let wide = which.row_wide();
+    for i in 0..count_of(&ledger.cells) {
+        put_part(out, at + wide * i, which, row_at(&ledger.cells, i));
     }
 }
 
@@ -47,47 +43,43 @@ fn put_head(out: &mut [u8], form: Form, n: usize)
     requires { (n ≤ 256) × (8 ≤ length out.old) × (head_long (tables_of form) ≤ length out.old) }
     ensures { out.new ≡ laid out.old 0 (head_of (tables_of form) n) }
 {
-    let head = head_long(form);
-    write2(out, 0, n as u16);
-    write2(out, 2, head as u16);
-    write2(out, 4, (head + 4 * n) as u16);
-    write2(out, 6, (head + 16 * n) as u16);
+    let head = form.head_long();
+    write(out, 0, 2, n as u64);
+    write(out, 2, 2, head as u64);
+    write(out, 4, 2, (head + 4 * n) as u64);
+    write(out, 6, 2, (head + 16 * n) as u64);
     match form {
         Form::Old => (),
-        Form::New => write2(out, 8, (head + 20 * n) as u16),
+        Form::New => write(out, 8, 2, (head + 20 * n) as u64),
     }
 }
 
-// Writes the page of a ledger that keeps the rules.
-fn put_page(out: &mut [u8], form: Form, cells: &[u64; CELLS])
-    requires { Kept cells.now × (page_length (tables_of form) (count_of cells.now) ≤ length out.old) }
-    ensures { out.new ≡ laid out.old 0 (page_of (tables_of form) (rows_of cells.now)) }
+// Writes the page of a ledger.
+fn put_page(out: &mut [u8], form: Form, ledger: &KeptLedger)
+    requires { page_length (tables_of form) (count_of ledger.now.cells) ≤ length out.old }
+    ensures { out.new ≡ laid out.old 0 (page_of (tables_of form) (rows_of ledger.now.cells)) }
 {
-    let n = count_of(cells);
-    let head = head_long(form);
+    let n = count_of(&ledger.cells);
+    let head = form.head_long();
     put_head(out, form, n);
-    put_table(out, head, Table::Keys, cells);
-    put_table(out, head + 4 * n, Table::Readings, cells);
+    put_table(out, head, Table::Keys, ledger);
+    put_table(out, head + 4 * n, Table::Readings, ledger);
     match form {
         Form::Old => (),
-        Form::New => put_table(out, head + 16 * n, Table::Times, cells),
+        Form::New => put_table(out, head + 16 * n, Table::Times, ledger),
     }
 }
 
-// Stores the ledger as a page in either form: 16, then 12; octets past the page stay.
-pub(crate) fn store_form(ledger: Ledger, form: Form, out: &mut [u8]) -> Written
-    ensures { (out.new ≡ output_of out.old (within (length out.old) (store_of (tables_of form) ledger.cells)))
-        × (result ≡ answer_of (within (length out.old) (store_of (tables_of form) ledger.cells)))
-        × (listed_written result ≡ outcome_listed (within (length out.old) (store_of (tables_of form) ledger.cells))) }
+// Stores a ledger as a page in either form: 12; octets past the page stay.
+pub(crate) fn store_kept(ledger: &KeptLedger, form: Form, out: &mut [u8]) -> Result<usize, Refusal>
+    ensures { let outcome = within (length out.old) (puts (page_of (tables_of form) (rows_of ledger.now.cells))) in
+        (out.new ≡ output_of out.old outcome) × (as_written result ≡ answer_of outcome)
+        × (listed_written (as_written result) ≡ outcome_listed outcome) }
 {
-    let cells = ledger.cells;
-    if !is_kept(&cells) {
-        return Written::Refused(refusal::RULES_BROKEN);
-    }
-    let size = page_length(form, count_of(&cells));
+    let size = form.page_length(count_of(&ledger.cells));
     if out.len() < size {
-        return Written::Refused(refusal::OUTPUT_TOO_SHORT);
+        return Err(Refusal::OutputTooShort);
     }
-    put_page(out, form, &cells);
-    Written::Octets(size)
+    put_page(out, form, ledger);
+    Ok(size)
 }

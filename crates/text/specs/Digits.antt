@@ -1,7 +1,6 @@
 -- Digits and their values; numbers and octets as text.
-use Rattle.std.specs.Prelude.{◌&&◌, List, [], ◌∷◌, ◌++◌, ℕ, zero, suc, ◌+◌, ◌*◌, ◌-◌, ◌/◌, ◌%◌, leb, ltb}
+use Rattle.std.specs.Prelude.{◌&&◌, Option, Some, None, List, [], ◌∷◌, ◌++◌, ℕ, zero, suc, ◌+◌, ◌*◌, ◌-◌, ◌/◌, ◌%◌, leb, ltb}
 use Rattle.octets.specs.Choice.{pick}
-use Rattle.text.specs.declared.digits.Number.{Number}
 
 -- 0 to 9 are the octets 48 to 57, A to F 65 to 70, a to f 97 to 102; 16 for any other
 unfoldable pub hex_value : ℕ → ℕ
@@ -11,12 +10,16 @@ hex_value c =
     (pick (leb 97 c && leb c 102) (c - 87)
     16))
 
+-- a digit's value, and none where what was read is no digit
+abbrev pub digit_of : ℕ → Option ℕ
+digit_of d = pick (ltb d 16) (Some d) None
+
 -- a decimal digit at the low end, where the number stays below 2^64
-unfoldable pub with_digit : ℕ → ℕ → Number
+unfoldable pub with_digit : ℕ → ℕ → Option ℕ
 with_digit n c =
-    pick (ltb 9 (hex_value c)) Number.Nothing
-    (pick (ltb 18446744073709551615 (n * 10 + hex_value c)) Number.Nothing
-    (Number.Value (n * 10 + hex_value c)))
+    pick (ltb 9 (hex_value c)) None
+    (pick (ltb 18446744073709551615 (n * 10 + hex_value c)) None
+    (Some (n * 10 + hex_value c)))
 
 -- the digit of the low half of an octet, in upper case
 unfoldable pub hex_digit : ℕ → ℕ

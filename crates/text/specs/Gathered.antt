@@ -1,4 +1,4 @@
--- Text gathered in a lent buffer, which is written to standard output when one octet more finds it full. Of what is written nothing is said.
+-- Text gathered in a buffer, which is written to standard output when one octet more finds it full. Of what is written nothing is said.
 use Rattle.std.specs.Prelude.{Bool, List, [], ◌∷◌, ℕ, ◌+◌, ltb, length, set}
 use Rattle.octets.specs.Choice.{pick}
 

@@ -1,86 +1,73 @@
 // The ledger layer's cases. A ledger is given as octets, so that one that breaks the rules can be said too: the row count (8), then 256
 // places of key (4), life count (8), reading (4) and time (4, all ones where none is known).
+use crate::Text;
 use crate::case::unknown;
 use ledger::cells::{CELLS, COUNT, NO_TIME, ROWS, Row, put_row, row_at};
 use ledger::post::post;
 use ledger::{Answer, Ledger};
 use pages::load;
-use text::{more, number};
 
 // The octets of a ledger.
 const SIZE: usize = 8 + 20 * ROWS;
 
-// The number of four octets, and of eight; past the end there are zeros.
-fn four(s: &[u8], at: usize) -> u32 {
-    if s.len() < at {
-        return 0;
-    }
-    octets::read4(s, at)
-}
+// An empty place, as the ledger's own `new_row`, which stays in its crate.
+const EMPTY: Row = Row {
+    key: 0,
+    life: 0,
+    reading: 0,
+    time: NO_TIME,
+};
 
-fn eight(s: &[u8], at: usize) -> u64 {
-    if s.len() < at {
-        return 0;
-    }
-    octets::read8(s, at)
-}
-
+// The ledger that octets give; past their end there are zeros.
 pub(crate) fn ledger_of(s: &[u8]) -> Ledger {
     let mut cells = [0u64; CELLS];
-    cells[COUNT] = eight(s, 0);
-    let mut i: usize = 0;
-    while i < ROWS {
+    cells[COUNT] = octets::read(s, 0, 8);
+    for i in 0..ROWS {
         let at = 8 + 20 * i;
         let row = Row {
-            key: four(s, at) as u64,
-            life: eight(s, at + 4),
-            reading: four(s, at + 12) as u64,
-            time: four(s, at + 16) as u64,
+            key: octets::read(s, at, 4),
+            life: octets::read(s, at + 4, 8),
+            reading: octets::read(s, at + 12, 4),
+            time: octets::read(s, at + 16, 4),
         };
         put_row(&mut cells, i, row);
-        i += 1;
     }
     Ledger { cells }
 }
 
 // A place that is not empty: its number from 0, key, life count, reading and time.
-fn say_place(text: &mut [u8], held: usize, i: usize, row: Row) -> usize {
-    if (row.key == 0) & (row.life == 0) & (row.reading == 0) & (row.time == NO_TIME) {
-        return held;
+fn say_place(text: &mut Text, i: usize, row: Row) {
+    if row != EMPTY {
+        text.more(&[i as u64, row.key, row.life, row.reading, row.time]);
     }
-    let values = [i as u64, row.key, row.life, row.reading, row.time];
-    more(text, held, &values)
 }
 
 // Row count and places.
-pub(crate) fn say_rows(text: &mut [u8], held: usize, cells: &[u64; CELLS]) -> usize {
-    let values = [cells[COUNT]];
-    let mut at = more(text, held, &values);
-    let mut i: usize = 0;
-    while i < ROWS {
-        at = say_place(text, at, i, row_at(cells, i));
-        i += 1;
+pub(crate) fn say_rows(text: &mut Text, cells: &[u64; CELLS]) {
+    text.more(&[cells[COUNT]]);
+    for i in 0..ROWS {
+        say_place(text, i, row_at(cells, i));
     }
-    at
 }
 
 // Refusal, row count and places.
-fn say_ledger(text: &mut [u8], held: usize, answer: Answer) -> usize {
-    let ledger = answer.ledger;
-    let cells = ledger.cells;
-    let at = number(text, held, answer.refusal as u64);
-    say_rows(text, at, &cells)
+fn say_ledger(text: &mut Text, answer: Answer) {
+    text.number(match answer.answer {
+        Ok(()) => 0,
+        Err(refusal) => u64::from(u8::from(refusal)),
+    });
+    say_rows(text, &answer.ledger.cells);
 }
 
 // A record of a block posted: the ledger's octets, then the block's.
-pub(crate) fn say_posting(s: &[u8], text: &mut [u8], held: usize, k: usize) -> usize {
+pub(crate) fn say_posting(s: &[u8], text: &mut Text, k: usize) {
     if s.len() < SIZE {
-        return unknown(text, held);
+        unknown(text);
+    } else {
+        say_ledger(text, post(ledger_of(s), &s[SIZE..], k));
     }
-    let ledger = ledger_of(s);
-    say_ledger(text, held, post(ledger, &s[SIZE..], k))
 }
 
-pub(crate) fn say_loading(s: &[u8], text: &mut [u8], held: usize) -> usize {
-    say_ledger(text, held, load(s))
+pub(crate) fn say_loading(s: &[u8], text: &mut Text) {
+    say_ledger(text, load(s));
 }

@@ -1,39 +1,26 @@
-// The octets of a case, put one after the other.
+// The octets of a case, put one after the other into one array that is lent, on no heap; how many there are stands in the case.
 
-// A length that says that there were too many.
-pub const TOO_LONG: usize = usize::MAX;
-
-// One octet more; what has no room is dropped, and the length tells.
-pub(crate) fn put(store: &mut [u8], len: usize, octet: u8) -> usize {
-    if len < store.len() {
-        store[len] = octet;
-        return len + 1;
-    }
-    TOO_LONG
+// One octet more behind so many; how many there are then, or none where it has no room.
+pub(crate) fn put(store: &mut [u8], len: usize, octet: u8) -> Option<usize> {
+    *store.get_mut(len)? = octet;
+    Some(len + 1)
 }
 
 // The octets between two offsets once more, from an offset that is not before the first.
-fn again(store: &mut [u8], from: usize, to: usize, at: usize) -> usize {
+fn again(store: &mut [u8], from: usize, to: usize, at: usize) -> Option<usize> {
     let mut end = at;
-    let mut i = from;
-    while i < to {
-        if store.len() <= i {
-            return TOO_LONG;
-        }
-        let octet = store[i];
-        end = put(store, end, octet);
-        i += 1;
+    for i in from..to {
+        let octet = *store.get(i)?;
+        end = put(store, end, octet)?;
     }
-    end
+    Some(end)
 }
 
 // The octets between two offsets so many times, the first time where they stand.
-pub(crate) fn repeat(store: &mut [u8], from: usize, to: usize, times: usize) -> usize {
+pub(crate) fn repeat(store: &mut [u8], from: usize, to: usize, times: usize) -> Option<usize> {
     let mut end = from;
-    let mut left = times;
-    while 0 < left && end < TOO_LONG {
-        end = again(store, from, to, end);
-        left -= 1;
+    for _ in 0..times {
+        end = again(store, from, to, end)?;
     }
-    end
+    Some(end)
 }

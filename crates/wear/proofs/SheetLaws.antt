@@ -117,7 +117,8 @@ sheet_short cells k t w =
 
 -- The sheet of a feed
 
-pub worn_printed : (feed l : List ℕ) (last : Turn) → Worn feed l last → (xs : List ℕ) → xs ≡ sheet_of (state (rows_of l) last.totals) → Printed last xs
+pub worn_printed : (feed l : List ℕ) (last : Turn) → Worn feed l last → (xs : List ℕ)
+    → xs ≡ sheet_of (state (rows_of l) last.totals) → Printed last xs
 worn_printed feed l last w xs e = record {
   feed = feed;
   all = w.all;

@@ -2,15 +2,18 @@
 use mathlib.Core.Bool.{Bool, true, false}
 use mathlib.Core.List.{List, ◌++◌}
 use mathlib.Core.Path.{◌≡◌, sym, ap, ◌∙◌, subst}
-use Prim.Native.Nat.{ℕ, ◌≤◌, ◌<◌, ◌^◌}
+use Prim.Native.Nat.{ℕ, ◌+◌, ◌-◌, ◌≤◌, ◌<◌, ◌^◌}
 use native.Mathlib.Omega.{arith}
-use borrow.Author.Tests.{eq-eqb, ne_eqb}
+use borrow.Author.Tests.{ne_eqb}
 use lib.Dec.{eqb}
-use lib.ListN.{length, get_or, length-append}
+use lib.ListN.{length, get_or, take, drop, length-append}
+use lib.Seq.{take-add, length-take-le, drop_at}
+use Rattle.std.specs.Prelude.{Option, Some, None}
 use Rattle.octets.proofs.Cases.{test, choose}
-use Rattle.blocks.specs.Walks.{ReadListed, listed_reading, read_of, read_listed}
-use Rattle.blocks.specs.declared.walk.Reading.{Reading}
-use Rattle.blocks.specs.declared.walk.Reading.TheVariants as reading
+use Rattle.blocks.specs.declared.fault.Fault.{Fault}
+use Rattle.blocks.specs.Walks.{read_of, read_listed}
+use Rattle.blocks.specs.Reading.{Reading}
+use Rattle.blocks.specs.Reading as reading
 use Rattle.feed.specs.Blocks.{len_of, judged, next_of, listed_next, next_listed}
 use Rattle.feed.specs.Totals.{up}
 use Rattle.feed.specs.declared.block.Next.{Next}
@@ -22,33 +25,28 @@ use Rattle.text.specs.Gathered.{Gathered, put_all}
 use Rattle.text.specs.Quotes.{quoted}
 use Rattle.text.proofs.DecimalLaws.{decimal-short}
 use Rattle.text.proofs.SentenceLaws.{sentence-short}
-use Rattle.wear.specs.Tells.{refused_words, fault_words, skipped_words, skipped_line, stop_words, stopped_words, unread_first, unread_words, longest_line, StopTold}
+use Rattle.wear.specs.Tells.{number_in, refused_words, fault_words, skipped_words, skipped_line, stop_words, stopped_words, unread_first, unread_words, longest_line, StopTold}
 use Rattle.wear.specs.Turns.{waiting, Left}
 use Rattle.wear.specs.declared.input.Turn.{Turn}
 
--- a reading in its cases
-pub listed_of : (r a : Reading) (b : ReadListed) → r ≡ a → listed_reading r ≡ b → ((listed_reading a).refusal ≡ b.refusal) × ((listed_reading a).offset ≡ b.offset)
-listed_of r a b e is =
-    let same = ap listed_reading (sym e) ∙ is in
-    (ap (λ (x : ReadListed). x.refusal) same, ap (λ (x : ReadListed). x.offset) same)
+-- what stands between two offsets
+pub between : (s : List ℕ) (from to : ℕ) → from ≤ to → to ≤ length s → take (to - from) (drop from s) ≡ drop from (take to s)
+between s from to l h =
+    let sum : from + (to - from) ≡ to = omega arith in
+    let front = length-take-le from s (omega arith) in
+    sym (drop_at (take from s) (take (to - from) (drop from s)) from front) ∙ ap (drop from) (sym (take-add from (to - from) s))
+    ∙ ap (λ n. drop from (take n s)) sum
 
-module _ (g g' : Gathered) (offset at : ℕ) where
-  pub header-put : at ≡ 0 → g' ≡ put_all g (quoted "; its header\n") → g' ≡ put_all g (fault_words offset at)
-  header-put e h = rw (eq-eqb at 0 e) h
-
-  pub record_put : (sum : ℕ) → (at ≡ 0 → ⊥) → sum ≡ up offset at → g' ≡ put_all g (quoted "; its record at octet " ++ decimal sum ++ quoted "\n")
-      → g' ≡ put_all g (fault_words offset at)
-  record_put sum n is h = rw (ne_eqb at 0 n, ← is) h
-
--- where a read failed
-module _ (g g' : Gathered) (failed : Bool) where
-  pub first-failed : failed ≡ true → g' ≡ put_all g (quoted "; at least ") → g' ≡ put_all g (unread_first failed)
-  first-failed e h = rw e h
-
-  pub first-known : failed ≡ false → g' ≡ put_all g (quoted "; ") → g' ≡ put_all g (unread_first failed)
-  first-known e h = rw e h
+-- the words of a fault in a record
+pub record_put : (g g' : Gathered) (offset at sum : ℕ) → (at ≡ 0 → ⊥) → sum ≡ up offset at
+    → g' ≡ put_all g (quoted "; its record at octet " ++ decimal sum ++ quoted "\n") → g' ≡ put_all g (fault_words offset at)
+record_put g g' offset at sum n is h = rw (ne_eqb at 0 n, ← is) h
 
 -- No line is long
+
+pub number_small : (fault : Option Fault) → number_in fault < 2 ^ 64
+number_small None = omega arith
+number_small (Some fault) = grind arith
 
 refused-short : (n : ℕ) → n < 2 ^ 64 → length (refused_words n) ≤ 110
 unfolding quoted
@@ -66,7 +64,8 @@ first_short true = omega arith
 first_short false = omega arith
 
 -- a line of its numbers, and that of the block
-module _ (offset cat len refusal at : ℕ) (small : offset < 2 ^ 64) (small-cat : cat < 2 ^ 64) (small-len : len < 2 ^ 64) (narrow : refusal < 2 ^ 64) where
+module _ (offset cat len refusal at : ℕ) (small : offset < 2 ^ 64) (small-cat : cat < 2 ^ 64) (small-len : len < 2 ^ 64)
+    (narrow : refusal < 2 ^ 64) where
   pub skipped_short : length (skipped_words offset cat len refusal at) ≤ longest_line
   unfolding quoted
   skipped_short =
@@ -98,14 +97,13 @@ pub unread-short : (n : ℕ) (failed : Bool) → n < 2 ^ 64 → length (unread_w
 unfolding unread_words quoted
 unread-short n failed h =
     let last = quoted " octets from there on were not read\n" in
-    omega (arith, length-append (unread_first failed ++ decimal n) last, length-append (unread_first failed) (decimal n), first_short failed, decimal-short n h)
+    let first = unread_first failed in
+    omega (arith, length-append (first ++ decimal n) last, length-append first (decimal n), first_short failed, decimal-short n h)
 
 -- A block that a run goes past has a header, and its octets are there
 
 abbrev pub Passes : List ℕ → Next → Type 0
-Passes s next.Ended = Unit {0}
-Passes s next.Stopped = Unit {0}
-Passes s next.More = Unit {0}
+Passes s (next.Left ending) = Unit {0}
 Passes s (next.Skipped len) = (4 ≤ len) × (len ≤ length s)
 Passes s (next.Accepted len) = (4 ≤ len) × (len ≤ length s)
 

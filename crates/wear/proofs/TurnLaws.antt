@@ -14,14 +14,13 @@ use Rattle.octets.specs.Numbers.{Octets}
 use Rattle.octets.proofs.Cases.{test}
 use Rattle.octets.proofs.Parts.{Octets-drop, Octets-take}
 use Rattle.ledger.specs.Ledgers.{rows_of, cells_of}
-use Rattle.ledger.specs.Steps.{Kept}
-use Rattle.ledger.proofs.CellLaws.{rows_back, ruled-none}
+use Rattle.ledger.proofs.CellLaws.{rows_back}
 use Rattle.feed.specs.Blocks.{next_of}
 use Rattle.feed.specs.Runs.{State, state, Run, behind, run_from, run_over, zeros}
 use Rattle.feed.specs.Totals.{up}
 use Rattle.feed.specs.declared.run.Ending.{Ending}
+use Rattle.feed.specs.declared.totals.Totals.{Totals}
 use Rattle.feed.specs.declared.run.Ending.TheVariants as ending
-use Rattle.feed.proofs.KeptRuns.{kept_run}
 use Rattle.feed.proofs.RunTheorems.{rest-short, run_more, run-stopped}
 use Rattle.feed.proofs.RunEnds.{Proper, run-left}
 use Rattle.feed.proofs.TotalLaws.{up-low, up-high, up_up}
@@ -29,7 +28,9 @@ use Rattle.wear.specs.Turns.{unread, going_of, held, waiting, Waiting, Came, Tur
 use Rattle.wear.specs.declared.input.Turn.{Turn}
 use Rattle.wear.specs.declared.reads.Going.{Going}
 use Rattle.wear.specs.declared.reads.Reads.{Reads}
-use Rattle.wear.proofs.FrontRuns.{turn}
+
+abbrev pub turn : ℕ → ℕ → ℕ → Totals → Going → Reads → Turn
+turn from to used t g reads = record { from = from; to = to; used = used; totals = t; going = g; reads = reads }
 
 -- a fresh ledger and totals of zero
 abbrev fresh : State
@@ -164,10 +165,6 @@ module _ (s buffer l : List ℕ) (now : Turn) (w : Waits s buffer l now) where
   abbrev run : Run
   run = run_over s false fresh
 
-  -- the ledger keeps the rules
-  pub waits_kept : Kept l
-  waits_kept = subst Kept (sym w.done.rows) (kept_run (suc (length s)) s w.done.octets false fresh ruled-none)
-
   -- as many octets wait as the run left
   many : held now ≡ length (drop run.at s)
   many = omega (arith, length-drop now.from (take now.to buffer), length-take-le now.to buffer w.done.within, ap length w.done.waits)
@@ -276,10 +273,6 @@ module _ (s buffer l : List ℕ) (now : Turn) (w : Waits s buffer l now) where
     failed = λ f. absurd ((failed_not f).on e);
     on = λ e. w.done.all ∙ up-most (length s) h;
   }
-
--- The ledger of a whole feed keeps the rules.
-pub worn_kept : (feed l : List ℕ) (last : Turn) → Worn feed l last → Kept l
-worn_kept feed l last w = subst Kept (sym w.rows) (kept_run (suc (length feed)) feed w.all.octets true fresh ruled-none)
 
 -- Nothing can be printed before the first read.
 unread-feed : (s : List ℕ) → 0 ≡ up 0 (length s) → (run_over s false fresh).ending ≡ Ending.Stopped → ⊥

@@ -1,6 +1,8 @@
 -- What is told on standard error: refused blocks that were skipped, and where a run stopped.
-use Rattle.std.specs.Prelude.{Bool, true, List, [], ◌++◌, ◌≡◌, ℕ, eqb, get_or, drop}
+use Rattle.std.specs.Prelude.{Bool, true, Option, Some, None, List, [], ◌++◌, ◌≡◌, ℕ, eqb, get_or, drop}
 use Rattle.octets.specs.Choice.{pick}
+use Rattle.octets.specs.Refusals.{number_of}
+use Rattle.blocks.specs.declared.fault.Fault.{Fault}
 use Rattle.blocks.specs.Walks.{read_listed}
 use Rattle.feed.specs.Blocks.{len_of}
 use Rattle.feed.specs.Runs.{state, run_over, zeros}
@@ -10,6 +12,15 @@ use Rattle.text.specs.Quotes.{quoted}
 use Rattle.text.specs.Sentences.{sentence}
 use Rattle.wear.specs.Turns.{AllCame}
 use Rattle.wear.specs.declared.input.Turn.{Turn}
+
+-- of what refuses a block: the refusal's number, and the place of the fault; 0 and 0 where nothing does
+abbrev pub number_in : Option Fault → ℕ
+number_in (Some fault) = number_of fault.refusal
+number_in None = 0
+
+abbrev pub place_in : Option Fault → ℕ
+place_in (Some fault) = fault.at
+place_in None = 0
 
 -- a refusal: its number, and what it says
 abbrev pub refused_words : ℕ → List ℕ

@@ -1,5 +1,5 @@
 -- What the reads give, what a turn of the program does, and what it has done when the input is over (01 "Worked examples", the program `wear`).
-use Rattle.std.specs.Prelude.{Bool, true, false, List, [], ◌⊎◌, ◌≡◌, ℕ, ◌+◌, ◌-◌, ◌^◌, ◌≤◌, ◌<◌, eqb, ℤ, pos, negsuc, length, take, drop}
+use Rattle.std.specs.Prelude.{Bool, true, false, List, [], ◌⊎◌, ◌≡◌, ℕ, ◌+◌, ◌-◌, ◌^◌, ◌≤◌, ◌<◌, eqb, Option, Some, None, IfSome, length, take, drop}
 use Rattle.octets.specs.Choice.{pick}
 use Rattle.octets.specs.Numbers.{Octets}
 use Rattle.ledger.specs.Ledgers.{rows_of, cells_of}
@@ -10,7 +10,6 @@ use Rattle.feed.specs.declared.run.Ending.TheVariants as ending
 use Rattle.wear.specs.declared.input.Turn.{Turn}
 use Rattle.wear.specs.declared.reads.Going.{Going}
 use Rattle.wear.specs.declared.reads.Going.TheVariants as going
-use Rattle.wear.specs.declared.reads.Input.{Input}
 use Rattle.wear.specs.declared.reads.Reads.{Reads}
 
 -- Nothing has been read; a read gave so many octets, none of them at the end of the input; a read failed.
@@ -33,21 +32,15 @@ is_failed going.Failed = true
 abbrev pub has_failed : Reads → Bool
 has_failed reads = is_failed reads.input
 
--- by what the system answers: a number of octets, or one below 0
-abbrev pub input_of : Reads → ℤ → Input
-input_of before (pos n) = Input.Came n (heard before n)
-input_of before (negsuc n) = Input.Failed (unheard before)
+-- by what a read gave: so many octets, or none where it failed
+abbrev pub told_of : Reads → Option ℕ → Reads
+told_of before (Some n) = heard before n
+told_of before None = unheard before
 
--- what a call that is handed n octets may answer: -1, or how many octets it moved, at most n
-abbrev pub Moved : ℕ → ℤ → Type 0
-Moved n (pos k) = k ≤ n
-Moved n (negsuc k) = k ≡ 0
-
--- a read with so much room was answered
-pub record Heard (room : ℕ) (before : Reads) (input : Input) : Type 0 where
-  pub got : ℤ
-  pub moved : Moved room got
-  pub said : input ≡ input_of before got
+-- a read with so much room was made: what it gave, and what is told then
+pub record Heard (room : ℕ) (before : Reads) (came : Option ℕ) (after : Reads) : Type 0 where
+  pub moved : IfSome came (λ n. n ≤ room)
+  pub told : after ≡ told_of before came
 
 -- One read more: an account that goes on has an octet more, up to 2^64 - 1.
 pub record OneMore (before after : Reads) : Type 0 where
@@ -88,8 +81,8 @@ pub record Waiting (turn : Turn) (buffer : List ℕ) : Type 0 where
   pub within : turn.to ≤ length buffer
   pub room : held turn < length buffer
 
--- So many octets came. The buffer begins with those that waited, what came stands behind them, and a run over just these is done. Where none came, the
--- input is over.
+-- So many octets came. The buffer begins with those that waited, what came stands behind them, and a run over just these is done. Where none
+-- came, the input is over.
 pub record Came (before : Turn) (buffer₀ l₀ buffer l : List ℕ) (turn : Turn) : Type 0 where
   pub n : ℕ
   pub fits : held before + n ≤ length buffer

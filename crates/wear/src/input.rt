@@ -1,19 +1,18 @@
 // The octets of a feed as they come.
-ghost use Rattle.std.specs.Prelude.{◌≡◌, ◌-◌, ◌≤◌, ◌<◌, length, take, drop};
+ghost use Rattle.std.specs.Prelude.{◌≡◌, ◌-◌, ◌≤◌, length, take, drop};
 ghost use Rattle.ledger.specs.Ledgers.{rows_of};
-ghost use Rattle.ledger.specs.Steps.{Kept};
 ghost use Rattle.feed.specs.Runs.{state, run_over};
 ghost use Rattle.wear.specs.Turns.{going_of, Waiting, Ran, Turned};
 
-use crate::reads::{Going, Input, Reads, more, read_behind};
+use crate::reads::{Going, Reads, more};
 use crate::tells::tell_skipped;
 use feed::run::{Ending, run};
 use feed::totals::Totals;
-use ledger::cells::CELLS;
+use ledger::kept::KeptLedger;
 use std::io::Stdin;
 
 // Between which offsets of the buffer octets wait, how many the run has used before them, up to 2^64 - 1, what has been counted, whether the run
-// goes on, and what the reads have given.
+// goes on, and what the reads have given. The buffer is lent beside it, and on no heap.
 #[derive(Clone, Copy)]
 pub struct Turn {
     pub from: usize,
@@ -24,31 +23,28 @@ pub struct Turn {
     pub reads: Reads,
 }
 
-// Moves what stands between two offsets to the front of the buffer, and tells how much it is.
+// Moves what stands between two offsets to the front of the buffer, and tells how much it is. What stands there already is not copied: a block that
+// comes in many reads would be copied with each.
 fn keep(buffer: &mut [u8], from: usize, to: usize) -> usize
     requires { (from ≤ to) × (to ≤ length buffer.old) }
     ensures { (result ≡ to - from) × (take result buffer.new ≡ drop from (take to buffer.old)) }
 {
-    let n = to - from;
-    if from == 0 {
-        return n;
+    if 0 < from {
+        buffer.copy_within(from..to, 0);
     }
-    let mut i: usize = 0;
-    while i < n {
-        buffer[i] = buffer[from + i];
-        i += 1;
-    }
-    n
+    to - from
 }
 
 // Whether the run goes on, by how it left off.
-fn going_of(ending: Ending) -> Going
-    ensures { result ≡ going_of ending }
-{
-    match ending {
-        Ending::More => Going::On,
-        Ending::Ended => Going::Over,
-        Ending::Stopped => Going::Stopped,
+impl From<Ending> for Going {
+    ghost from_gives = { λ ending going. going ≡ going_of ending };
+
+    fn from(ending: Ending) -> Going {
+        match ending {
+            Ending::More => Going::On,
+            Ending::Ended => Going::Over,
+            Ending::Stopped => Going::Stopped,
+        }
     }
 }
 
@@ -57,30 +53,24 @@ fn run_front(
     s: &[u8],
     is_over: bool,
     tells: bool,
-    cells: &mut [u64; CELLS],
+    ledger: &mut KeptLedger,
     before: Turn,
     reads: Reads,
 ) -> Turn
-    requires { Kept cells.old }
     ensures { Ran s.now
-        (run_over s.now is_over (state (rows_of cells.old) before.totals))
-        cells.new before.used reads result }
+        (run_over s.now is_over (state (rows_of ledger.old.cells) before.totals))
+        ledger.new.cells before.used reads result }
 {
-    let used = before.used;
     if tells {
-        tell_skipped(s, is_over, used);
+        tell_skipped(s, is_over, before.used);
     }
-    let totals = before.totals;
-    let done = run(cells, s, is_over, totals);
-    let at = done.at;
-    let after = done.totals;
-    let ending = done.ending;
+    let done = run(ledger, s, is_over, before.totals);
     Turn {
-        from: at,
+        from: done.at,
         to: s.len(),
-        used: more(used, at),
-        totals: after,
-        going: going_of(ending),
+        used: more(before.used, done.at),
+        totals: done.totals,
+        going: done.ending.into(),
         reads,
     }
 }
@@ -89,33 +79,25 @@ fn run_front(
 pub(crate) fn take_turn(
     stdin: Stdin,
     buffer: &mut [u8],
-    cells: &mut [u64; CELLS],
+    ledger: &mut KeptLedger,
     tells: bool,
     before: Turn,
 ) -> Turn
-    requires { Waiting before buffer.old × Kept cells.old }
+    requires { Waiting before buffer.old }
     ensures { Turned before buffer.old
-        cells.old
-        buffer.new cells.new result }
+        ledger.old.cells
+        buffer.new ledger.new.cells result }
 {
-    let reads = before.reads;
+    let mut reads = before.reads;
     let held = keep(buffer, before.from, before.to);
-    let input = read_behind(stdin, buffer, held, reads);
-    match input {
-        Input::Failed(told) => {
-            let totals = before.totals;
-            Turn {
-                from: 0,
-                to: held,
-                used: before.used,
-                totals,
-                going: Going::Failed,
-                reads: told,
-            }
-        }
-        Input::Came(n, told) => {
-            let end = held + n;
-            run_front(&buffer[..end], n == 0, tells, cells, before, told)
-        }
+    match reads.read_behind(stdin, buffer, held) {
+        Some(n) => run_front(&buffer[..held + n], n == 0, tells, ledger, before, reads),
+        None => Turn {
+            from: 0,
+            to: held,
+            going: Going::Failed,
+            reads,
+            ..before
+        },
     }
 }

@@ -1,12 +1,12 @@
 // What the reads of standard input have given.
-ghost use Rattle.std.specs.Prelude.{◌≡◌, ◌-◌, ◌≤◌, length, take};
+ghost use Rattle.std.specs.Prelude.{◌≡◌, ◌-◌, ◌≤◌, length, take, IfSome};
 ghost use Rattle.feed.specs.Totals.{up};
-ghost use Rattle.wear.specs.Turns.{unread, heard, has_failed, input_of, Moved, Heard, OneMore, ReadOn};
+ghost use Rattle.wear.specs.Turns.{unread, told_of, has_failed, Heard, OneMore, ReadOn};
 
 use std::io::{Read, Stdin};
 
 // Whether it goes on, is over, or a read failed: of the input, and of the run over it, which may also stop.
-#[derive(Clone, Copy)]
+#[derive(Clone, Copy, PartialEq)]
 pub enum Going {
     On,
     Over,
@@ -22,135 +22,89 @@ pub struct Reads {
     input: Going,
 }
 
-// What a read gave: so many octets, none of them at the end of the input; or it failed.
-#[derive(Clone, Copy)]
-pub enum Input {
-    Came(usize, Reads),
-    Failed(Reads),
-}
-
-// Nothing has been read.
-pub(crate) fn none() -> Reads
-    ensures { result ≡ unread }
-{
-    Reads {
-        octets: 0,
-        input: Going::On,
-    }
-}
-
 // So many octets more, up to 2^64 - 1.
 pub(crate) fn more(octets: u64, n: usize) -> u64
     ensures { result ≡ up octets n }
 {
-    let came = n as u64;
-    if u64::MAX - octets < came {
-        return u64::MAX;
-    }
-    octets + came
+    octets.saturating_add(n as u64)
 }
 
-// So many octets came, and none at the end of the input.
-fn after(before: Reads, n: usize) -> Reads
-    ensures { result ≡ heard before n }
-{
-    let octets = more(before.octets, n);
-    if n == 0 {
-        return Reads {
-            octets,
-            input: Going::Over,
-        };
-    }
-    Reads {
-        octets,
-        input: Going::On,
-    }
-}
-
-// What a read's answer says.
-fn told(before: Reads, got: isize) -> Input
-    ensures { result ≡ input_of before got }
-{
-    if got < 0 {
-        return Input::Failed(Reads {
-            octets: before.octets,
-            input: Going::Failed,
-        });
-    }
-    let n = got as usize;
-    let reads = after(before, n);
-    Input::Came(n, reads)
-}
-
-// One read behind what is held: the system's own answer, a number of octets or -1.
-fn ask(mut stdin: Stdin, buffer: &mut [u8], held: usize) -> isize
+// One read behind what is held: how many octets came, or none where it failed.
+fn ask(mut stdin: Stdin, buffer: &mut [u8], held: usize) -> Option<usize>
     requires { held ≤ length buffer.old }
-    ensures { (take held buffer.new ≡ take held buffer.old) × Moved (length buffer.old - held) result }
+    ensures { (take held buffer.new ≡ take held buffer.old) × IfSome result (λ n. n ≤ length buffer.old - held) }
 {
-    match stdin.read(&mut buffer[held..]) {
-        Ok(n) => n as isize,
-        Err(_) => -1,
-    }
+    stdin.read(&mut buffer[held..]).ok()
 }
 
-// One read behind what is held, and what it says.
-pub(crate) fn read_behind(stdin: Stdin, buffer: &mut [u8], held: usize, before: Reads) -> Input
-    requires { held ≤ length buffer.old }
-    ensures { (take held buffer.new ≡ take held buffer.old) × Heard (length buffer.old - held) before result }
-{
-    let got = ask(stdin, buffer, held);
-    told(before, got)
-}
-
-// One read more, only to count what comes.
-fn read_once(stdin: Stdin, buffer: &mut [u8], before: Reads) -> Reads
-    ensures { OneMore before result }
-{
-    let input = read_behind(stdin, buffer, 0, before);
-    match input {
-        Input::Failed(told) => told,
-        Input::Came(_, told) => told,
-    }
-}
-
-// Reads on to the end of the input, or to a read that fails, or for as long as can be counted.
-pub(crate) fn read_on(stdin: Stdin, buffer: &mut [u8], before: Reads) -> Reads
-    ensures { ReadOn before result }
-{
-    let mut reads = before;
-    let mut left = u64::MAX;
-    while 0 < left {
-        let going = reads.input;
-        if let Going::On = going {
-            reads = read_once(stdin, buffer, reads);
-        } else {
-            return reads;
+impl Reads {
+    // Nothing has been read.
+    pub(crate) fn none() -> Reads
+        ensures { result ≡ unread }
+    {
+        Reads {
+            octets: 0,
+            input: Going::On,
         }
-        left -= 1;
     }
-    reads
-}
 
-// How many octets the reads have given behind so many.
-pub(crate) fn behind(reads: Reads, used: u64) -> u64
-    ensures { result ≡ reads.octets - used }
-{
-    let octets = reads.octets;
-    if octets < used {
-        return 0;
+    // One read more: what it gave, which is no octets at the end of the input.
+    fn after(self, came: Option<usize>) -> Reads
+        ensures told { result ≡ told_of self came }
+        ensures more { OneMore self result }
+    {
+        match came {
+            Some(n) => Reads {
+                octets: more(self.octets, n),
+                input: if n == 0 { Going::Over } else { Going::On },
+            },
+            None => Reads {
+                input: Going::Failed,
+                ..self
+            },
+        }
     }
-    octets - used
-}
 
-// Whether a read failed.
-pub(crate) fn has_failed(reads: Reads) -> bool
-    ensures { result ≡ has_failed reads }
-{
-    let going = reads.input;
-    match going {
-        Going::On => false,
-        Going::Over => false,
-        Going::Stopped => false,
-        Going::Failed => true,
+    // One read behind what is held: how many octets came, or none where it failed.
+    pub(crate) fn read_behind(
+        &mut self,
+        stdin: Stdin,
+        buffer: &mut [u8],
+        held: usize,
+    ) -> Option<usize>
+        requires { held ≤ length buffer.old }
+        ensures held { take held buffer.new ≡ take held buffer.old }
+        ensures heard { Heard (length buffer.old - held) self.old result self.new }
+        ensures more { OneMore self.old self.new }
+    {
+        let came = ask(stdin, buffer, held);
+        *self = self.after(came);
+        came
+    }
+
+    // Reads on to the end of the input, or to a read that fails, or for as long as can be counted: only to count what comes.
+    pub(crate) fn read_on(&mut self, stdin: Stdin, buffer: &mut [u8])
+        ensures { ReadOn self.old self.new }
+    {
+        'reads: for _ in 0..u64::MAX {
+            if self.input != Going::On {
+                return;
+            }
+            self.read_behind(stdin, buffer, 0);
+        }
+    }
+
+    // How many octets the reads have given behind so many.
+    pub(crate) fn behind(self, used: u64) -> u64
+        ensures { result ≡ self.octets - used }
+    {
+        self.octets.saturating_sub(used)
+    }
+
+    // Whether a read failed.
+    pub(crate) fn has_failed(self) -> bool
+        ensures { result ≡ has_failed self }
+    {
+        self.input == Going::Failed
     }
 }

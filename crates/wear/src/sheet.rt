@@ -1,76 +1,69 @@
 // What is printed, gathered whole: a header, the rows by key, and the totals.
-ghost use Rattle.std.specs.Prelude.{List, ◌≡◌, ℕ, ◌≤◌, length, take};
+ghost use Rattle.std.specs.Prelude.{List, ◌≡◌, ℕ, take};
 ghost use Rattle.io.specs.Counts.{IsPrefixLen};
 ghost use Rattle.ledger.specs.Ledgers.{rows_of, table};
-ghost use Rattle.ledger.specs.Steps.{Kept};
-ghost use Rattle.text.specs.Gathered.{gathered, put_all};
+ghost use Rattle.text.specs.Gathered.{put_all};
 ghost use Rattle.wear.specs.Turns.{Worn};
-ghost use Rattle.wear.specs.Sheets.{longest, line_of, row_line, totals_line, Printed};
+ghost use Rattle.wear.specs.Sheets.{line_of, row_line, totals_line, Printed};
 
 use crate::input::Turn;
 use feed::totals::Totals;
-use ledger::cells::{CELLS, count_of, row_at};
-use text::{emit, emit_all, number, word_number};
+use ledger::cells::{Row, count_of, row_at};
+use ledger::kept::KeptLedger;
+use text::Text;
 
 // Room for the longest sheet: a header of 21 octets, 256 rows of 41 at most, and totals of 117.
 const SHEET: usize = 21 + 41 * 256 + 117;
 
 // A row: the key in 8 hex digits, life count and reading.
-fn row_line(text: &mut [u8], held: usize, key: u32, life: u64, reading: u64) -> usize
-    ensures { gathered text.new result ≡ put_all (gathered text.old held) (line_of key life reading) }
+fn row_line(text: &mut Text<SHEET>, row: Row)
+    ensures { text.new ≡ put_all text.old (line_of row.key row.life row.reading) }
 {
     let mut spelled = [0u8; 4];
-    octets::write4(&mut spelled, 0, key);
-    let a = text::hex(text, held, &spelled);
-    let b = emit(text, a, b' ');
-    let c = number(text, b, life);
-    let d = emit(text, c, b' ');
-    let e = number(text, d, reading);
-    emit(text, e, b'\n')
+    octets::write(&mut spelled, 0, 4, row.key);
+    text.hex(&spelled);
+    text.emit(b' ');
+    text.number(row.life);
+    text.emit(b' ');
+    text.number(row.reading);
+    text.emit(b'\n');
 }
 
-// The rows from the first on.
-fn row_lines(text: &mut [u8], held: usize, cells: &[u64; CELLS]) -> usize
-    requires { Kept cells.now }
-    ensures { gathered text.new result ≡ put_all (gathered text.old held) (table row_line (rows_of cells.now)) }
+// The rows.
+fn row_lines(text: &mut Text<SHEET>, ledger: &KeptLedger)
+    ensures { text.new ≡ put_all text.old (table row_line (rows_of ledger.now.cells)) }
 {
-    let n = count_of(cells);
-    let mut at = held;
-    let mut i: usize = 0;
-    while i < n {
-        let row = row_at(cells, i);
-        at = row_line(text, at, row.key as u32, row.life, row.reading);
-        i += 1;
+    for i in 0..count_of(&ledger.cells) {
+        row_line(text, row_at(&ledger.cells, i));
     }
-    at
 }
 
-fn totals_line(text: &mut [u8], held: usize, totals: Totals) -> usize
-    ensures { gathered text.new result ≡ put_all (gathered text.old held) (totals_line totals) }
+fn totals_line(text: &mut Text<SHEET>, totals: Totals)
+    ensures { text.new ≡ put_all text.old (totals_line totals) }
 {
-    let a = word_number(text, held, b"accepted ", totals.accepted);
-    let b = word_number(text, a, b" refused ", totals.refused);
-    let c = word_number(text, b, b" posted ", totals.posted);
-    let d = word_number(text, c, b" unposted ", totals.unposted);
-    emit(text, d, b'\n')
+    text.word_number(b"accepted ", totals.accepted);
+    text.word_number(b" refused ", totals.refused);
+    text.word_number(b" posted ", totals.posted);
+    text.word_number(b" unposted ", totals.unposted);
+    text.emit(b'\n');
 }
 
-// The sheet of a whole feed, at the turn with which its reads have come to an end; how many octets it has.
-fn sheet(text: &mut [u8], cells: &[u64; CELLS], last: Turn) -> usize
-    requires { ((feed : List ℕ) × Worn feed cells.now last) × (longest ≤ length text.old) }
-    ensures { Printed last (take result text.new) × IsPrefixLen result text.new }
+// The sheet of a whole feed, at the turn with which its reads have come to an end.
+fn sheet(ledger: &KeptLedger, last: Turn) -> Text<SHEET>
+    requires { (feed : List ℕ) × Worn feed ledger.now.cells last }
+    ensures { Printed last (take result.held result.octets) × IsPrefixLen result.held result.octets }
 {
-    let totals = last.totals;
-    let a = emit_all(text, 0, b"counter life reading\n");
-    let b = row_lines(text, a, cells);
-    totals_line(text, b, totals)
+    let mut text = Text::new();
+    text.emit_all(b"counter life reading\n");
+    row_lines(&mut text, ledger);
+    totals_line(&mut text, last.totals);
+    text
 }
 
 // The sheet is written at once; whether that could be done.
-pub(crate) fn print(cells: &[u64; CELLS], last: Turn) -> bool
-    requires { (feed : List ℕ) × Worn feed cells.now last }
+pub(crate) fn print(ledger: &KeptLedger, last: Turn) -> bool
+    requires { (feed : List ℕ) × Worn feed ledger.now.cells last }
 {
-    let mut space = [0u8; SHEET];
-    let n = sheet(&mut space, cells, last);
-    io::write_all(1, &space[..n])
+    let text = sheet(ledger, last);
+    io::write_all(1, &text.octets[..text.held])
 }

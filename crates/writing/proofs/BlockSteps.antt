@@ -48,9 +48,5 @@ module _ (cat : ℕ) (rs : List Rec) (n : ℕ) (is : n ≡ length (put_recs (cat
   pub body-room : 3 + length (put_recs (category cat) rs) ≤ length l₁
   body-room = omega (arith, is, header-same l l₁ cat (n + 3) (omega arith) e)
 
-  module _ (l₂ : List ℕ) (f : l₂ ≡ laid l₁ 3 (put_recs (category cat) rs)) where
-    pub body_same : length l₂ ≡ length l
-    body_same = rw f (length-laid l₁ 3 (put_recs (category cat) rs) body-room ∙ header-same l l₁ cat (n + 3) (omega arith) e)
-
-    pub body-laid : l₂ ≡ laid l 0 (put_block cat rs)
-    body-laid = f ∙ rw e (block-laid l cat rs n is h)
+  pub body-laid : (l₂ : List ℕ) → l₂ ≡ laid l₁ 3 (put_recs (category cat) rs) → l₂ ≡ laid l 0 (put_block cat rs)
+  body-laid l₂ f = f ∙ rw e (block-laid l cat rs n is h)

@@ -20,8 +20,8 @@ use Rattle.blocks.specs.Offsets.{record_at}
 use Rattle.blocks.specs.Boundaries.{Joined}
 use Rattle.blocks.specs.Headers.{header_of}
 use Rattle.blocks.specs.Walks.{answer_of, read_of}
-use Rattle.blocks.specs.declared.header.Head.{Head}
-use Rattle.blocks.specs.declared.walk.Reading.{Reading}
+use Rattle.blocks.specs.Head.{Head}
+use Rattle.blocks.specs.Reading.{Reading}
 use Rattle.blocks.proofs.RecordTheorems.{normal_short}
 use Rattle.blocks.proofs.WindowLaws.{record_at_lem}
 use Rattle.blocks.proofs.ReadSteps.{record_within}

@@ -20,7 +20,7 @@ use Rattle.layouts.specs.declared.form.Form.{Form}
 use Rattle.layouts.specs.declared.form.Form.TheVariants as form
 use Rattle.layouts.proofs.Parsed.{and_yes}
 use Rattle.items.specs.Typed.{form_of, field_of, given, trace_of, item_refusal, item_octets, size_of}
-use Rattle.items.specs.declared.item.Size.{Size}
+use Rattle.items.specs.Size.{Size}
 use Rattle.items.specs.declared.typed.Item.{Item}
 use Rattle.items.specs.declared.typed.Item.TheVariants as item
 use Rattle.items.proofs.ReadBack.{item-fits}
@@ -215,9 +215,6 @@ module _ (s : List ℕ) (t : Record) where
       pub sum : total + length (octets_from f) ≡ length (octets_of s t bs fs)
       pub few : total ≤ (f - 1) * 2000
 
-    pub counted_none : Counted 0 1
-    counted_none = record { low = omega arith; refusal = refl; sum = omega arith; few = omega arith }
-
     module _ (total f : ℕ) (w : Counted total f) where
       -- past the last field
       counted-all : length fs < f → Size.Octets total ≡ items_size s t bs fs
@@ -266,9 +263,6 @@ module _ (s : List ℕ) (t : Record) where
       pub size : length out ≡ length out₀
       pub behind : p + length (octets_from f) ≡ at + length (octets_of s t bs fs)
       pub same : laid out₀ at (octets_of s t bs fs) ≡ laid out p (octets_from f)
-
-    pub laid-nothing : (out : List ℕ) (at : ℕ) → items_refusal s t bs fs ≡ 0 → Laid out at out at 1
-    laid-nothing out at h = record { low = omega arith; accepted = h; size = refl; behind = refl; same = refl }
 
     module _ (out₀ : List ℕ) (at : ℕ) (out : List ℕ) (p f : ℕ) (w : Laid out₀ at out p f) where
       -- past the last field
@@ -362,15 +356,12 @@ module _ (s : List ℕ) (t : Record) where
         here : i ≡ item_in t (form_at (category t.category) f)
         here = of-t ∙ ap (λ (y : Field). item_in t y.0) at_f
 
-        module _ (total : ℕ) (w : CountedFields total f) (r : Size) (told : r ≡ size_of s i) (n : ℕ) where
-          size-here : (z : Size) → r ≡ z → size_of s (item_in t (form_at (category t.category) f)) ≡ z
-          size-here z h = ap (size_of s) (sym here) ∙ sym told ∙ h
+        module _ (total : ℕ) (w : CountedFields total f) (n : ℕ) where
+          pub field-counted : Size.Octets n ≡ size_of s i → CountedFields (total + n) (f + 1)
+          field-counted h = counted_passed s t (flags s t) (fields s t) total f w inside marks-enough b (mark w.low) e n (rw here at (sym h))
 
-          pub field-counted : r ≡ Size.Octets n → CountedFields (total + n) (f + 1)
-          field-counted h = counted_passed s t (flags s t) (fields s t) total f w inside marks-enough b (mark w.low) e n (size-here (Size.Octets n) h)
-
-          pub field-refused : r ≡ Size.Refused n → Size.Refused n ≡ items_size s t (flags s t) (fields s t)
-          field-refused h = counted-refused s t (flags s t) (fields s t) total f w inside marks-enough b (mark w.low) e n (size-here (Size.Refused n) h)
+          pub field-refused : Size.Refused n ≡ size_of s i → Size.Refused n ≡ items_size s t (flags s t) (fields s t)
+          field-refused h = counted-refused s t (flags s t) (fields s t) total f w inside marks-enough b (mark w.low) e n (rw here at (sym h))
 
         module _ (out₀ : List ℕ) (at : ℕ) (out : List ℕ) (p : ℕ) (w : LaidFields out₀ at out p f) (enough : at + length (items_octets s t) ≤ length out₀) where
           -- the item is one that can be written there

@@ -5,7 +5,7 @@ use mathlib.Core.List.{List, [], ◌∷◌, ◌++◌}
 use Prim.Native.Nat.{ℕ, zero, suc, ◌+◌, ◌-◌, ◌*◌, ◌/◌, ◌%◌, ◌^◌, ◌≤◌, ◌<◌}
 use native.Mathlib.Nat.{zero-add, suc-add, pow-suc, div-div-eq-div-mul, div-lt_iff_lt-mul, zero-lt-suc, lt_of_lt_of_le, pow-le-pow_right}
 use native.Mathlib.Omega.{arith}
-use borrow.Author.Tests.{ltb-true, ltb-false, lt-ltb, eqb-true, eqb-false, eq-eqb, ne_eqb}
+use borrow.Author.Tests.{ltb-true, ltb-false, eqb-true, eqb-false, eq-eqb, ne_eqb}
 use lib.Dec.{ltb, eqb}
 use lib.ListN.{length, set, replicate}
 use Rattle.octets.specs.Choice.{pick, odd}
@@ -155,12 +155,12 @@ pub more-long : (n m : ℕ) → 128 ≤ m → m < 128 ^ suc n → length (put_ma
 more-long n m h l = rw (puts_then n m h l)
 
 -- one octet: the low seven marks, and whether others follow
-octet-last : (n m : ℕ) → m < 128 → put_marks (sevens (suc n) m) ≡ specification_octet (m % 128) false ∷ []
+octet-last : (n m : ℕ) → m < 128 → put_marks (sevens (suc n) m) ≡ specification_octet m ∷ []
 unfolding sevens
-octet-last n m l = puts-last n m l ∙ ap (λ (x : ℕ). x ∷ []) (rw (turn_low m) (omega arith))
+octet-last n m l = puts-last n m l ∙ ap (λ (x : ℕ). x ∷ []) (omega arith)
 
 octet_then : (n m : ℕ) → 128 ≤ m → m < 128 ^ suc (suc n)
-    → put_marks (sevens (suc (suc n)) m) ≡ specification_octet (m % 128) true ∷ put_marks (sevens (suc (suc n)) (m / 128))
+    → put_marks (sevens (suc (suc n)) m) ≡ (specification_octet (m % 128) + 1) ∷ put_marks (sevens (suc (suc n)) (m / 128))
 unfolding sevens
 octet_then n m h l =
     let small = less (suc n) m l in
@@ -168,31 +168,28 @@ octet_then n m h l =
     puts_then (suc n) m h l ∙ rw (turn_low m, puts-same n (suc n) (m / 128) small more)
 
 -- an octet put, and the others behind it
-pub put_last : (l : List ℕ) (p m x : ℕ) → x ≡ specification_octet (m % 128) (ltb 0 (m / 128)) → m / 128 ≡ 0 → p < length l
-    → laid l p (put_marks (sevens 4 m)) ≡ set l p x
-put_last l p m x e z h = rw (octet-last 3 m (omega arith), laid_one l p (specification_octet (m % 128) false) h, e, z)
+pub put_last : (l : List ℕ) (p m x : ℕ) → x ≡ specification_octet m → m < 128 → p < length l → laid l p (put_marks (sevens 4 m)) ≡ set l p x
+put_last l p m x e z h = rw (octet-last 3 m z, e) (laid_one l p (specification_octet m) h)
 
-pub put_then : (l : List ℕ) (p m x : ℕ) → x ≡ specification_octet (m % 128) (ltb 0 (m / 128)) → (m / 128 ≡ 0 → ⊥) → m < 128 ^ 4 → p < length l
+pub put_then : (l : List ℕ) (p m x : ℕ) → x ≡ specification_octet (m % 128) + 1 → 128 ≤ m → m < 128 ^ 4 → p < length l
     → laid l p (put_marks (sevens 4 m)) ≡ laid (set l p x) (p + 1) (put_marks (sevens 4 (m / 128)))
 put_then l p m x e z b h =
-    let yes : ltb 0 (m / 128) ≡ true = lt-ltb 0 (m / 128) (omega arith) in
-    let x' : x ≡ specification_octet (m % 128) true = rw yes at e in
-    rw (octet_then 2 m (omega arith) b, ← x', ← laid_one l p x h) (sym (laid-laid l p (x ∷ []) (put_marks (sevens 4 (m / 128))) (omega arith)))
+    rw (octet_then 2 m z b, ← e, ← laid_one l p x h) (sym (laid-laid l p (x ∷ []) (put_marks (sevens 4 (m / 128))) (omega arith)))
 
 -- and how many: one, and those behind it
-pub puts-long : (m : ℕ) → m / 128 ≡ 0 → length (put_marks (sevens 4 m)) ≡ 1
-puts-long m z = one-long 3 m (omega arith)
-
-pub puts-longer : (m : ℕ) → (m / 128 ≡ 0 → ⊥) → m < 128 ^ 4 → length (put_marks (sevens 4 m)) ≡ suc (length (put_marks (sevens 4 (m / 128))))
-puts-longer m z b = rw (octet_then 2 m (omega arith) b)
+pub puts-longer : (m : ℕ) → 128 ≤ m → m < 128 ^ 4 → length (put_marks (sevens 4 m)) ≡ suc (length (put_marks (sevens 4 (m / 128))))
+puts-longer m z b = rw (octet_then 2 m z b)
 
 -- there is an octet
 pub puts-some : (m : ℕ) → m < 128 ^ 4 → 1 ≤ length (put_marks (sevens 4 m))
-puts-some m b = go (eqb (m / 128) 0) refl
-  where
-    go : (e : Bool) → eqb (m / 128) 0 ≡ e → 1 ≤ length (put_marks (sevens 4 m))
-    go true e = omega (arith, puts-long m (eqb-true (m / 128) 0 e))
-    go false e = omega (arith, puts-longer m (eqb-false (m / 128) 0 e) b)
+puts-some m b = grind (arith, one-long 3 m, puts-longer m)
+
+-- one for seven marks or less, and more for more
+pub puts-few : (m : ℕ) → m < 128 ^ 4 → length (put_marks (sevens 4 m)) ≤ 1 → m < 128
+puts-few m b h = grind (arith, puts-longer m, puts-some (m / 128))
+
+pub puts-many : (m : ℕ) → 1 < length (put_marks (sevens 4 m)) → 128 ≤ m
+puts-many m h = grind (arith, one-long 3 m)
 
 -- fields past those marked
 flags-more : (n k m : ℕ) → m < 2 ^ n → flags_of (n + k) m ≡ flags_of n m ++ replicate k false

@@ -34,11 +34,11 @@ use Rattle.blocks.specs.Typed.{nowhere, absent, field_for, place_in, values_for,
 use Rattle.blocks.specs.Steps.{items_from, step_of, entry_group_of, entry_values, found_of, entry_in, entry_of}
 use Rattle.blocks.specs.Meaning.{item_in, values_of, rec_of}
 use Rattle.blocks.specs.Boundaries.{Joined}
-use Rattle.blocks.specs.declared.header.Head.{Head}
+use Rattle.blocks.specs.Head.{Head}
 use Rattle.blocks.specs.declared.record.Record.{Record}
-use Rattle.blocks.specs.declared.walk.Reading.{Reading}
-use Rattle.blocks.specs.declared.cursor.Step.{Step}
-use Rattle.blocks.specs.declared.cursor.Found.{Found}
+use Rattle.blocks.specs.Reading.{Reading}
+use Rattle.blocks.specs.Step.{Step}
+use Rattle.blocks.specs.Found.{Found}
 use Rattle.blocks.proofs.WalkSteps.{by-known, table}
 use Rattle.blocks.proofs.BlockLaws.{category-cat}
 use Rattle.blocks.proofs.FormLaws.{field-form}

@@ -12,7 +12,7 @@ use Rattle.octets.specs.Numbers.{laid}
 use Rattle.octets.specs.Refusals.{unknown_category, presence_broken}
 use Rattle.octets.proofs.Laying.{length-laid, laid-laid}
 use Rattle.layouts.specs.Categories.{known, category}
-use Rattle.items.specs.declared.item.Size.{Size}
+use Rattle.items.specs.Size.{Size}
 use Rattle.blocks.specs.Specification.{put_marks}
 use Rattle.layouts.specs.Presence.{needs_of, meets}
 use Rattle.blocks.specs.Marks.{flags_of}
@@ -145,9 +145,6 @@ module _ (s : List ℕ) (t : Record) where
       parts-second = omega (arith, long-first, parts-room at (length l) room, a.1)
 
       module _ (l2 : List ℕ) (r : ℕ) (b : (l2 ≡ laid l1 p (items_octets s t)) × (r ≡ p + length (items_octets s t))) where
-        pub parts_same : length l2 ≡ length l
-        parts_same = ap length b.0 ∙ length-laid l1 p (items_octets s t) parts-second ∙ long-first
-
         pub parts-laid : (l2 ≡ laid l at (record_octets s t)) × (r ≡ at + length (record_octets s t))
         parts-laid =
             let is = record_parts s t w.known small w.marks in (

@@ -10,32 +10,32 @@ use Rattle.octets.specs.Numbers.{Octets, number, octets, laid}
 use Rattle.octets.specs.Refusals.{output_too_short}
 use Rattle.octets.proofs.Laying.{laid_none, laid-laid, length-laid}
 use Rattle.layouts.specs.Categories.{known, category}
-use Rattle.items.specs.declared.item.Size.{Size}
+use Rattle.items.specs.Size.{Size}
 use Rattle.blocks.specs.Blocks.{Block, wrong, all, block_of, put_recs, put_block}
 use Rattle.blocks.specs.Steps.{take_of}
 use Rattle.blocks.specs.Walks.{answer_of, read_of}
 use Rattle.blocks.specs.declared.record.Record.{Record}
 use Rattle.blocks.specs.declared.cursor.Cursor.{Cursor}
-use Rattle.blocks.specs.declared.cursor.Step.{Step}
-use Rattle.blocks.specs.declared.walk.Reading.{Reading}
+use Rattle.blocks.specs.Step.{Step}
+use Rattle.blocks.specs.Reading.{Reading}
 use Rattle.blocks.proofs.ReadSteps.{record_within}
 use Rattle.blocks.proofs.ListedLaws.{read-block}
 use Rattle.blocks.proofs.BoundaryLaws.{not_accepted}
 use Rattle.blocks.proofs.StepLaws.{take-took, take-stopped}
 use Rattle.writing.specs.Judged.{record_refusal, record_octets, record_size}
 use Rattle.octets.specs.Outcomes.{no, puts, within}
-use Rattle.writing.specs.Written.{rewrite_from, rewrite_of, header_octets, good_at}
-use Rattle.octets.specs.declared.output.Written.{Written}
+use Rattle.writing.specs.Written.{rewrite_from, rewrite_of, header_octets, good_at, normal_at}
+use Rattle.octets.specs.Written.{Written}
 use Rattle.octets.proofs.Outcomes.{Says, says-short, says-puts}
 use Rattle.writing.proofs.Reread.{read-judged, read-octets}
 use Rattle.writing.proofs.GoodLaws.{good-end, good-refused, good-step, good-short, Accepted}
 use Rattle.writing.proofs.RecordWritten.{refused-size, write_good}
-use Rattle.writing.proofs.BlockSteps.{block-long, body-room, body_same, body-laid}
+use Rattle.writing.proofs.BlockSteps.{block-long, body-room, body-laid}
 
 -- The octets of the records from an offset on, in normal form
 module _ (s : List ℕ) (len cat : ℕ) where
   abbrev pub rest : ℕ → List ℕ
-  rest at = put_recs (category cat) (good_at s len (category cat) len at)
+  rest = normal_at s len cat
 
   rest_end : (at : ℕ) → len ≤ at → rest at ≡ []
   unfolding put_recs
@@ -48,7 +48,6 @@ module _ (s : List ℕ) (len cat : ℕ) where
   -- a record that is taken
   pub record Next (at : ℕ) (t : Record) (next : ℕ) : Type 0 where
     pub forward : at < next
-    pub within : next ≤ len
     pub fine : record_refusal s t ≡ 0
     pub is : rest at ≡ record_octets s t ++ rest next
 
@@ -58,10 +57,8 @@ module _ (s : List ℕ) (len cat : ℕ) where
   rest-next o fit k at more t c h =
       let w = take-took s len cat at t c h in
       let e = w.is in
-      let (l, m) = record_within s len (category cat) o at c.at w.r e in
       record {
-        forward = l;
-        within = m;
+        forward = (record_within s len (category cat) o at c.at w.r e).0;
         fine = read-judged s len cat at o fit k w.r c.at e t w.same;
         is =
             rw (good-step s len (category cat) o len at w.r c.at more (omega arith) e)
@@ -70,11 +67,11 @@ module _ (s : List ℕ) (len cat : ℕ) where
 
   -- Counting: the octets so far, and those of the records from an offset on
   pub record Counted (total at : ℕ) : Type 0 where
-    pub within : at ≤ len
+    pub behind : 3 ≤ at
     pub all : total + length (rest at) ≡ length (rest 3)
 
-  pub counted_none : 3 ≤ len → Counted 0 3
-  counted_none h = record { within = h; all = zero-add _ }
+  pub counted_none : Counted 0 3
+  counted_none = record { behind = omega arith; all = zero-add _ }
 
   counted-last : (total at : ℕ) → Counted total at → rest at ≡ [] → total ≡ length (rest 3)
   counted-last total at w e = let z : length (rest at) ≡ 0 = rw e in omega (arith, w.all)
@@ -87,13 +84,12 @@ module _ (s : List ℕ) (len cat : ℕ) where
 
   -- Writing: the octets from an offset on are still to be laid
   pub record Put (out₀ out : List ℕ) (p at : ℕ) : Type 0 where
-    pub within : at ≤ len
     pub long : length out ≡ length out₀
     pub all : p + length (rest at) ≡ 3 + length (rest 3)
     pub is : laid out p (rest at) ≡ laid out₀ 3 (rest 3)
 
-  pub put-none : (out : List ℕ) → 3 ≤ len → Put out out 3 3
-  put-none out h = record { within = h; long = refl; all = refl; is = refl }
+  pub put-none : (out : List ℕ) → Put out out 3 3
+  put-none out = record { long = refl; all = refl; is = refl }
 
   put_last : (out₀ out : List ℕ) (p at : ℕ) → Put out₀ out p at → rest at ≡ [] → out ≡ laid out₀ 3 (rest 3)
   unfolding octets
@@ -118,32 +114,28 @@ module _ (s : List ℕ) (len cat : ℕ) where
     unfolding record_size
     counted-refused n h = let (e, f) = refused-size (record_refusal s t) _ n h in f (sym e ∙ next.fine)
 
-    pub counted-more : (total n : ℕ) → Counted total at → Size.Octets n ≡ record_size s t
-        → (at < c.at) × (total + n ≤ length (rest 3)) × Counted (total + n) c.at
-    counted-more total n w h =
-        let is = (write_good s t n h).long in
-        let a = w.all in
-        let l = next-long in
-        (next.forward, omega arith, record { within = next.within; all = omega arith })
+    pub next-forward : at < c.at
+    next-forward = next.forward
+
+    module _ (total n : ℕ) (w : Counted total at) (h : Size.Octets n ≡ record_size s t) where
+      pub counted-low : total + n ≤ length (rest 3)
+      counted-low = omega (arith, next-long, (write_good s t n h).long)
+
+      pub counted-more : Counted (total + n) c.at
+      counted-more = record { behind = omega (arith, w.behind, next.forward); all = omega (arith, next-long, (write_good s t n h).long) }
 
     module _ (out₀ out : List ℕ) (p : ℕ) (w : Put out₀ out p at) (room : 3 + length (rest 3) ≤ length out₀) where
-      pub put-room : (record_refusal s t ≡ 0) × (p + length (record_octets s t) ≤ length out)
-      put-room = (next.fine, omega (arith, w.all, w.long, next-long))
+      pub put-room : p + length (record_octets s t) ≤ length out
+      put-room = omega (arith, w.all, w.long, next-long)
 
-      pub put-more : (out' : List ℕ) (p' : ℕ) → out' ≡ laid out p (record_octets s t) → p' ≡ p + length (record_octets s t)
-          → (at < c.at) × Put out₀ out' p' c.at
+      pub put-more : (out' : List ℕ) (p' : ℕ) → out' ≡ laid out p (record_octets s t) → p' ≡ p + length (record_octets s t) → Put out₀ out' p' c.at
       put-more out' p' e f =
-          let fits = put-room.1 in (
-            next.forward,
-            record {
-              within = next.within;
-              long = rw e (length-laid out p (record_octets s t) fits ∙ w.long);
-              all = omega (arith, w.all, next-long);
-              is =
-                  rw (e, f)
-                  (laid-laid out p (record_octets s t) (rest c.at) fits ∙ ap (laid out p) (sym next.is) ∙ w.is);
-            },
-          )
+          let fits = put-room in
+          record {
+            long = rw e (length-laid out p (record_octets s t) fits ∙ w.long);
+            all = omega (arith, w.all, next-long);
+            is = rw (e, f) (laid-laid out p (record_octets s t) (rest c.at) fits ∙ ap (laid out p) (sym next.is) ∙ w.is);
+          }
 
 -- The whole block
 
@@ -181,9 +173,6 @@ module _ (s : List ℕ) (cat len : ℕ) (o : Octets s) (w : Accepted s cat len) 
     rewrite_room = body-room cat (good_at s len (category cat) len 3) n is l l₁ h e
 
     module _ (l₂ : List ℕ) (f : l₂ ≡ laid l₁ 3 (rest s len cat 3)) where
-      pub rewrite_same : length l₂ ≡ length l
-      rewrite_same = body_same cat (good_at s len (category cat) len 3) n is l l₁ h e l₂ f
-
       pub rewrite_whole : Says l l₂ (Written.Octets (n + 3)) (within (length l) (rewrite_of s))
       rewrite_whole =
           says-puts l (rewrite_of s) whole (n + 3) rewrite_is whole_long h l₂ (body-laid cat (good_at s len (category cat) len 3) n is l l₁ h e l₂ f)

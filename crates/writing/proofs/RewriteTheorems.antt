@@ -14,7 +14,7 @@ use Rattle.blocks.specs.Walks.{answer_of, read_of}
 use Rattle.blocks.specs.Meaning.{rec_of}
 use Rattle.blocks.specs.Boundaries.{Visited}
 use Rattle.blocks.specs.declared.record.Record.{Record}
-use Rattle.blocks.specs.declared.walk.Reading.{Reading}
+use Rattle.blocks.specs.Reading.{Reading}
 use Rattle.blocks.proofs.HeaderLaws.{header-good}
 use Rattle.blocks.proofs.BlockLaws.{OfAll, Sound, block-sound, block_normal, put-len}
 use Rattle.blocks.proofs.ListedLaws.{read-block}

@@ -19,8 +19,8 @@ use Rattle.blocks.specs.Typed.{typed_rec, has}
 use Rattle.blocks.specs.Steps.{items_from, step_of, entry_in, entry_of}
 use Rattle.blocks.specs.Meaning.{rec_of}
 use Rattle.blocks.specs.declared.record.Record.{Record}
-use Rattle.blocks.specs.declared.cursor.Step.{Step}
-use Rattle.blocks.specs.declared.cursor.Found.{Found}
+use Rattle.blocks.specs.Step.{Step}
+use Rattle.blocks.specs.Found.{Found}
 use Rattle.blocks.proofs.HeaderLaws.{Headed, header-good}
 use Rattle.blocks.proofs.WalkSteps.{table}
 use Rattle.blocks.proofs.BlockLaws.{category-cat}

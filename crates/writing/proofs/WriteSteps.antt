@@ -13,7 +13,7 @@ use Rattle.blocks.specs.declared.record.Record.{Record}
 use Rattle.writing.specs.Judged.{record_octets}
 use Rattle.writing.specs.Written.{header_octets}
 use Rattle.writing.proofs.RecordWritten.{Good}
-use Rattle.writing.proofs.BlockSteps.{block-long, body-room, body_same, body-laid}
+use Rattle.writing.proofs.BlockSteps.{block-long, body-room, body-laid}
 use Rattle.writing.proofs.WriteTheorems.{written-short}
 
 module _ (s : List ℕ) (t : Record) (n : ℕ) (g : Good s t n) where
@@ -40,9 +40,6 @@ module _ (s : List ℕ) (t : Record) (n : ℕ) (g : Good s t n) where
     module _ (l2 : List ℕ) (b : l2 ≡ laid l1 3 (record_octets s t)) where
       laid-body : l2 ≡ laid l1 3 (put_recs (category t.category) rs)
       laid-body = b ∙ ap (laid l1 3) (sym g.same)
-
-      pub whole_same : length l2 ≡ length l
-      whole_same = body_same t.category rs n body l l1 room a l2 laid-body
 
       pub whole-laid : l2 ≡ laid l 0 whole
       whole-laid = body-laid t.category rs n body l l1 room a l2 laid-body

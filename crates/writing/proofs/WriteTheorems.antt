@@ -18,7 +18,7 @@ use Rattle.blocks.proofs.GoodRecords.{items_fit, good, all_good}
 use Rattle.blocks.specs.Walks.{answer_of, read_of}
 use Rattle.blocks.specs.Meaning.{sevens, rec_of}
 use Rattle.blocks.specs.declared.record.Record.{Record}
-use Rattle.blocks.specs.declared.walk.Reading.{Reading}
+use Rattle.blocks.specs.Reading.{Reading}
 use Rattle.blocks.proofs.WalkSteps.{by-known, table}
 use Rattle.blocks.proofs.BlockLaws.{record_some, block-put, put-len}
 use Rattle.blocks.proofs.ListedLaws.{read-block}

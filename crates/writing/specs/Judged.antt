@@ -1,11 +1,11 @@
 -- What refuses a typed record for writing (01 "Writing one record as a block"): 2, 6, 5, then by item 7, 8, 11; then 10.
-use Rattle.std.specs.Prelude.{Bool, List, [], ◌∷◌, ℕ, ◌+◌, ◌*◌, eqb, length, get_or}
+use Rattle.std.specs.Prelude.{Bool, List, [], ◌∷◌, ℕ, ◌*◌, eqb, length, get_or}
 use Rattle.octets.specs.Choice.{pick}
 use Rattle.octets.specs.Refusals.{unknown_category, presence_broken}
 use Rattle.layouts.specs.Categories.{known, category}
 use Rattle.layouts.specs.declared.form.Form.{Form}
 use Rattle.items.specs.Typed.{item_refusal}
-use Rattle.items.specs.declared.item.Size.{Size}
+use Rattle.items.specs.Size.{Size}
 use Rattle.blocks.specs.Marks.{flags_of, marked}
 use Rattle.blocks.specs.Records.{formats, marks_refusal, present, put_items, put_rec}
 use Rattle.blocks.specs.Meaning.{item_in, sevens, values_of, rec_of}
@@ -19,9 +19,9 @@ or_else n m = pick (eqb n 0) m n
 abbrev pub marked_type : ℕ → ℕ → ℕ → ℕ
 marked_type cat marks type = pick (eqb cat 242) 0 (pick (marked marks 2) type 0)
 
--- a specification octet of the low seven marks, and FX
-abbrev pub specification_octet : ℕ → Bool → ℕ
-specification_octet low more = get_or (sevens 1 low) 0 0 * 2 + pick more 1 0
+-- a specification octet of the low seven marks, FX not set
+abbrev pub specification_octet : ℕ → ℕ
+specification_octet low = get_or (sevens 1 low) 0 0 * 2
 
 module _ (s : List ℕ) (t : Record) where
   -- of marked items in field order the first refusal; entries and content lie in the source s

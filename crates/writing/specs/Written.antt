@@ -4,9 +4,9 @@ use Rattle.octets.specs.Choice.{pick}
 use Rattle.octets.specs.Numbers.{octets}
 use Rattle.octets.specs.Outcomes.{Outcome, no, puts}
 use Rattle.layouts.specs.Formats.{Parsed, refused, got}
-use Rattle.layouts.specs.Categories.{Category}
+use Rattle.layouts.specs.Categories.{Category, category}
 use Rattle.blocks.specs.Records.{Rec}
-use Rattle.blocks.specs.Blocks.{Block, wrong, all, block_of, put_block}
+use Rattle.blocks.specs.Blocks.{Block, wrong, all, block_of, put_recs, put_block}
 use Rattle.blocks.specs.Offsets.{record_at}
 use Rattle.blocks.specs.Meaning.{rec_of}
 use Rattle.blocks.specs.declared.record.Record.{Record}
@@ -39,3 +39,7 @@ module _ (s : List ℕ) (len : ℕ) (c : Category) where
   good_at (suc n) at =
       let next = good_from (record_at s len c at) (λ q. good_at n q) in
       pick (leb len at) [] next
+
+-- and their octets in normal form, from an offset of a block on
+abbrev pub normal_at : List ℕ → ℕ → ℕ → ℕ → List ℕ
+normal_at s len cat at = put_recs (category cat) (good_at s len (category cat) len at)

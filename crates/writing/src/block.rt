@@ -1,18 +1,21 @@
 // A record written as a block, and a block rewritten in normal form.
-ghost use Rattle.std.specs.Prelude.{◌≡◌, true, ◌+◌, ◌≤◌, ◌<◌, length};
+ghost use Rattle.std.specs.Prelude.{◌≡◌, ◌+◌, ◌≤◌, ◌<◌, length};
 ghost use Rattle.octets.specs.Numbers.{laid};
-ghost use Rattle.layouts.specs.Categories.{category, known};
-ghost use Rattle.blocks.specs.Blocks.{put_recs};
+ghost use Rattle.octets.specs.Written.{as_written};
 ghost use Rattle.octets.specs.Outcomes.{within, answer_of, output_of, listed_written, outcome_listed};
-ghost use Rattle.writing.specs.Written.{good_at, header_octets, write_of, rewrite_of};
+ghost use Rattle.writing.specs.Written.{header_octets, normal_at, write_of, rewrite_of};
 
-use crate::record::{put_record, record_size};
-use blocks::cursor::{Step, take};
+use crate::judged::Judged;
+use crate::record::record_size;
+use blocks::block::Block;
+use blocks::cursor::Cursor;
 use blocks::record::Record;
-use blocks::walk::{Reading, read};
-use items::item::Size;
-use octets::output::Written;
-use octets::refusal;
+use blocks::walk::read;
+use layouts::ends::Window;
+use octets::refusal::Refusal;
+
+// The octets of CAT and LEN.
+const HEADER: usize = 3;
 
 // Writes CAT and LEN.
 fn put_header(out: &mut [u8], cat: u8, len: usize)
@@ -20,98 +23,85 @@ fn put_header(out: &mut [u8], cat: u8, len: usize)
     ensures { out.new ≡ laid out.old 0 (header_octets cat len) }
 {
     out[0] = cat;
-    octets::write2(out, 1, len as u16);
+    octets::write(out, 1, 2, len as u64);
 }
 
 // Writes one typed record, its entries and content in the source, as a block; judged whole before an octet is written.
-pub fn write(record: Record, source: &[u8], out: &mut [u8]) -> Written
+pub fn write(record: Record, source: &[u8], out: &mut [u8]) -> Result<usize, Refusal>
     ensures { (out.new ≡ output_of out.old (within (length out.old) (write_of source.now «record»)))
-        × (result ≡ answer_of (within (length out.old) (write_of source.now «record»)))
-        × (listed_written result ≡ outcome_listed (within (length out.old) (write_of source.now «record»))) }
+        × (as_written result ≡ answer_of (within (length out.old) (write_of source.now «record»)))
+        × (listed_written (as_written result) ≡ outcome_listed (within (length out.old) (write_of source.now «record»))) }
 {
-    let size = record_size(record, source);
-    match size {
-        Size::Refused(n) => Written::Refused(n),
-        Size::Octets(n) => {
-            if out.len() < n + 3 {
-                return Written::Refused(refusal::OUTPUT_TOO_SHORT);
-            }
-            put_header(out, record.category, n + 3);
-            put_record(out, 3, record, source);
-            Written::Octets(n + 3)
-        }
+    let size = record_size(record, source)? + HEADER;
+    if out.len() < size {
+        return Err(Refusal::OutputTooShort);
     }
+    put_header(out, record.category, size);
+    let judged = Judged {
+        typed: record,
+        source,
+    };
+    judged.put(out, HEADER);
+    Ok(size)
 }
 
-// How many octets the records of a block have in normal form, up to the first that is refused.
-fn normal_size(s: &[u8], len: usize, cat: u8) -> usize
-    requires { (3 ≤ len) × (len ≤ length s.now) × (known cat ≡ true) }
-    ensures { result ≡ length (put_recs (category cat) (good_at s.now len (category cat) len 3)) }
+// How many octets the records of a block have in normal form, up to the first that is refused. A walk of its own, as all is judged before an octet is
+// written; one over both would ask at each record which it is.
+fn normal_size(block: &Block) -> usize
+    ensures { result ≡ length (normal_at block.now.window.octets.now block.now.window.len block.now.cat 3) }
 {
     let mut total: usize = 0;
-    let mut at: usize = 3;
-    while at < len {
-        let step = take(s, len, cat, at);
-        match step {
-            Step::Refused(_, _) => {
-                return total;
-            }
-            Step::Taken(record, cursor) => {
-                let size = record_size(record, s);
-                match size {
-                    Size::Refused(_) => {
-                        return total;
-                    }
-                    Size::Octets(n) => {
-                        total += n;
-                        at = cursor.at;
-                    }
-                }
-            }
-        }
+    let mut cursor = Cursor::first();
+    while cursor.at < block.window.len {
+        let Ok(step) = block.take(cursor.at) else {
+            return total;
+        };
+        let Ok(size) = record_size(step.taken, block.window.octets) else {
+            return total;
+        };
+        total += size;
+        cursor = step.next;
     }
     total
 }
 
 // Writes the records of a block in normal form behind the header, up to the first that is refused.
-fn put_records(out: &mut [u8], s: &[u8], len: usize, cat: u8)
-    requires { (3 ≤ len) × (len ≤ length s.now) × (known cat ≡ true) × (3 + length (put_recs (category cat) (good_at s.now len (category cat) len 3)) ≤ length out.old) }
-    ensures { out.new ≡ laid out.old 3 (put_recs (category cat) (good_at s.now len (category cat) len 3)) }
+fn put_records(out: &mut [u8], block: &Block)
+    requires { 3 + length (normal_at block.now.window.octets.now block.now.window.len block.now.cat 3) ≤ length out.old }
+    ensures { out.new ≡ laid out.old 3 (normal_at block.now.window.octets.now block.now.window.len block.now.cat 3) }
 {
-    let mut p: usize = 3;
-    let mut at: usize = 3;
-    while at < len {
-        let step = take(s, len, cat, at);
-        match step {
-            Step::Refused(_, _) => {
-                return;
-            }
-            Step::Taken(record, cursor) => {
-                p = put_record(out, p, record, s);
-                at = cursor.at;
-            }
-        }
+    let mut p = HEADER;
+    let mut cursor = Cursor::first();
+    while cursor.at < block.window.len {
+        let Ok(step) = block.take(cursor.at) else {
+            return;
+        };
+        let judged = Judged {
+            typed: step.taken,
+            source: block.window.octets,
+        };
+        p = judged.put(out, p);
+        cursor = step.next;
     }
 }
 
 // Rewrites an accepted block: its records in normal form, in their order, as one block.
-pub fn rewrite(s: &[u8], out: &mut [u8]) -> Written
+pub fn rewrite(s: &[u8], out: &mut [u8]) -> Result<usize, Refusal>
     ensures { (out.new ≡ output_of out.old (within (length out.old) (rewrite_of s.now)))
-        × (result ≡ answer_of (within (length out.old) (rewrite_of s.now)))
-        × (listed_written result ≡ outcome_listed (within (length out.old) (rewrite_of s.now))) }
+        × (as_written result ≡ answer_of (within (length out.old) (rewrite_of s.now)))
+        × (listed_written (as_written result) ≡ outcome_listed (within (length out.old) (rewrite_of s.now))) }
 {
-    let reading = read(s);
-    match reading {
-        Reading::Refused(n, _) => Written::Refused(n),
-        Reading::Accepted(len, _) => {
-            let cat = s[0];
-            let total = normal_size(s, len, cat);
-            if out.len() < total + 3 {
-                return Written::Refused(refusal::OUTPUT_TOO_SHORT);
-            }
-            put_header(out, cat, total + 3);
-            put_records(out, s, len, cat);
-            Written::Octets(total + 3)
-        }
+    let reading = read(s)?;
+    let window = Window {
+        octets: s,
+        len: reading.len,
+    };
+    let block = Block { window, cat: s[0] };
+    let total = normal_size(&block) + HEADER;
+    if out.len() < total {
+        return Err(Refusal::OutputTooShort);
     }
+    put_header(out, block.cat, total);
+    put_records(out, &block);
+    Ok(total)
 }

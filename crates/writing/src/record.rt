@@ -4,16 +4,21 @@ ghost use Rattle.octets.specs.Numbers.{laid};
 ghost use Rattle.layouts.specs.Categories.{known};
 ghost use Rattle.blocks.specs.Specification.{put_marks};
 ghost use Rattle.blocks.specs.Meaning.{item_in, sevens};
-ghost use Rattle.writing.specs.Judged.{items_refusal, items_size, items_octets, flags, fields, marked_type, specification_octet, record_refusal, record_octets, record_size};
+ghost use Rattle.items.specs.Size.{as_size};
+ghost use Rattle.writing.specs.Judged.{items_size, items_octets, flags, fields, marked_type, specification_octet, record_octets, record_size};
 
+use crate::judged::Judged;
 use blocks::marks::{is_marked, last_field, marks_refusal};
 use blocks::presence::is_present;
 use blocks::record::Record;
-use items::item::{Size, judge, put_item};
+use items::item::{judge, put_item};
 use items::typed::Item;
-use layouts::category::{Cat242, field_of, is_known};
+use layouts::category::{Cat242, Category, field_of, is_known};
 use layouts::form::Form;
-use octets::refusal;
+use octets::refusal::Refusal;
+
+// The low bit of a specification octet, set where others follow.
+const FX: u8 = 1;
 
 // The item of a form.
 fn item_in(record: Record, form: Form) -> Item
@@ -21,93 +26,51 @@ fn item_in(record: Record, form: Form) -> Item
 {
     match form {
         Form::Spare => Item::Absent,
-        Form::Source => {
-            let x = record.source;
-            Item::Source(x)
-        }
+        Form::Source => Item::Source(record.source),
         Form::MessageType => Item::MessageType(record.message_type),
-        Form::Service => {
-            let x = record.service;
-            Item::Service(x)
-        }
+        Form::Service => Item::Service(record.service),
         Form::Identification => Item::Identification(record.identification),
-        Form::Time => {
-            let x = record.time;
-            Item::Time(x)
-        }
+        Form::Time => Item::Time(record.time),
         Form::Batch => Item::Batch(record.batch),
-        Form::Sdps => {
-            let x = record.sdps;
-            Item::Sdps(x)
-        }
+        Form::Sdps => Item::Sdps(record.sdps),
         Form::Report => Item::Report(record.report),
-        Form::Station => {
-            let x = record.station;
-            Item::Station(x)
-        }
-        Form::Configuration => {
-            let x = record.configuration;
-            Item::Configuration(x)
-        }
+        Form::Station => Item::Station(record.station),
+        Form::Configuration => Item::Configuration(record.configuration),
         Form::Range => Item::Range(record.range),
         Form::Status => Item::Status(record.status),
-        Form::Statistics => {
-            let x = record.entries;
-            Item::Statistics(x)
-        }
-        Form::Versions => {
-            let x = record.entries;
-            Item::Versions(x)
-        }
-        Form::Expansion => {
-            let x = record.expansion;
-            Item::Expansion(x)
-        }
-        Form::Purpose => {
-            let x = record.purpose;
-            Item::Purpose(x)
-        }
+        Form::Statistics => Item::Statistics(record.entries),
+        Form::Versions => Item::Versions(record.entries),
+        Form::Expansion => Item::Expansion(record.expansion),
+        Form::Purpose => Item::Purpose(record.purpose),
     }
 }
 
 // How many octets the marked items have, or the refusal of the first that has one.
-fn items_size(record: Record, source: &[u8]) -> Size
+fn items_size(record: Record, source: &[u8]) -> Result<usize, Refusal>
     requires { known «record».category ≡ true }
-    ensures { result ≡ items_size source.now «record» (flags source.now «record») (fields source.now «record») }
+    ensures { as_size result ≡ items_size source.now «record» (flags source.now «record») (fields source.now «record») }
 {
     let cat = record.category;
-    let marks = record.marks;
     let last = last_field(cat);
     let mut total: usize = 0;
-    let mut f: usize = 1;
-    while f <= last {
-        if is_marked(marks, f) {
+    for f in 1..=last {
+        if is_marked(record.marks, f) {
             let field = field_of(cat, f);
-            let form = field.0;
-            let item = item_in(record, form);
-            let size = judge(item, field, source);
-            match size {
-                Size::Refused(n) => {
-                    return Size::Refused(n);
-                }
-                Size::Octets(n) => {
-                    total += n;
-                }
-            }
+            total += judge(item_in(record, field.0), field, source)?;
         }
-        f += 1;
     }
-    Size::Octets(total)
+    Ok(total)
 }
 
 // The record's type, for presence: the value of item 000, where it is marked; category 242 has none.
-fn type_of(cat: u8, marks: u32, message_type: u8) -> u8
-    ensures { result ≡ marked_type cat marks message_type }
+fn type_of(record: Record) -> u8
+    ensures { result ≡ marked_type «record».category «record».marks «record».message_type }
 {
-    if cat == Cat242::CAT {
-        return 0;
+    if record.category != Cat242::CAT && is_marked(record.marks, 2) {
+        record.message_type
+    } else {
+        0
     }
-    if is_marked(marks, 2) { message_type } else { 0 }
 }
 
 // How many octets the specification has: none behind the last that marks something.
@@ -123,44 +86,30 @@ fn marks_octets(marks: u32) -> usize
     }
 }
 
-// How many octets a record has in normal form, or the number that refuses it: 2, 6, 5, by item 7, 8, 11; 10.
-pub(crate) fn record_size(record: Record, source: &[u8]) -> Size
-    ensures { result ≡ record_size source.now «record» }
+// How many octets a record has in normal form, or what refuses it: 2, 6, 5, by item 7, 8, 11; 10.
+pub(crate) fn record_size(record: Record, source: &[u8]) -> Result<usize, Refusal>
+    ensures { as_size result ≡ record_size source.now «record» }
 {
     let cat = record.category;
     let marks = record.marks;
     if !is_known(cat) {
-        return Size::Refused(refusal::UNKNOWN_CATEGORY);
+        return Err(Refusal::UnknownCategory);
     }
-    let m = marks_refusal(cat, marks);
-    if m != refusal::ACCEPTED {
-        return Size::Refused(m);
-    }
-    let items = items_size(record, source);
-    match items {
-        Size::Refused(n) => Size::Refused(n),
-        Size::Octets(n) => {
-            if is_present(cat, type_of(cat, marks, record.message_type), marks) {
-                return Size::Octets(marks_octets(marks) + n);
-            }
-            Size::Refused(refusal::PRESENCE_BROKEN)
-        }
+    marks_refusal(cat, marks)?;
+    let size = items_size(record, source)?;
+    if is_present(cat, type_of(record), marks) {
+        Ok(marks_octets(marks) + size)
+    } else {
+        Err(Refusal::PresenceBroken)
     }
 }
 
-// A specification octet of the low seven marks: the first field's is its high bit. FX where others follow.
-fn marks_octet(low: u32, more: bool) -> u8
+// A specification octet of the low seven marks: the first field's is its high bit. FX is not set.
+fn marks_octet(low: u32) -> u8
     requires { low < 128 }
-    ensures { result ≡ specification_octet low more }
+    ensures { (result ≡ specification_octet low) × (result < 255) }
 {
-    let turned = low % 2 * 128
-        + low / 2 % 2 * 64
-        + low / 4 % 2 * 32
-        + low / 8 % 2 * 16
-        + low / 16 % 2 * 8
-        + low / 32 % 2 * 4
-        + low / 64 % 2 * 2;
-    (turned + more as u32) as u8
+    (low as u8).reverse_bits()
 }
 
 // Writes the specification, and gives the offset behind it.
@@ -168,46 +117,42 @@ fn put_marks(out: &mut [u8], at: usize, marks: u32) -> usize
     requires { (marks < 128 ^ 4) × (at + length (put_marks (sevens 4 marks)) ≤ length out.old) }
     ensures { (out.new ≡ laid out.old at (put_marks (sevens 4 marks))) × (result ≡ at + length (put_marks (sevens 4 marks))) }
 {
+    let last = at + marks_octets(marks) - 1;
     let mut left = marks;
-    let mut p = at;
-    loop {
-        let low = left % 128;
-        left = left / 128;
-        out[p] = marks_octet(low, 0 < left);
-        p += 1;
-        if left == 0 {
-            return p;
-        }
+    for p in at..last {
+        out[p] = marks_octet(left % 128) + FX;
+        left /= 128;
     }
+    out[last] = marks_octet(left);
+    last + 1
 }
 
-// Writes the marked items, and gives the offset behind them.
-fn put_items(out: &mut [u8], at: usize, record: Record, source: &[u8]) -> usize
-    requires { (known «record».category ≡ true) × (items_refusal source.now «record» (flags source.now «record») (fields source.now «record») ≡ 0) × (at + length (items_octets source.now «record») ≤ length out.old) }
-    ensures { (out.new ≡ laid out.old at (items_octets source.now «record»)) × (result ≡ at + length (items_octets source.now «record»)) }
-{
-    let cat = record.category;
-    let marks = record.marks;
-    let last = last_field(cat);
-    let mut p = at;
-    let mut f: usize = 1;
-    while f <= last {
-        if is_marked(marks, f) {
-            let field = field_of(cat, f);
-            let form = field.0;
-            let item = item_in(record, form);
-            p = put_item(out, p, item, field, source);
+impl<'a> Judged<'a> {
+    // Writes the marked items, and gives the offset behind them.
+    fn put_items(&self, out: &mut [u8], at: usize) -> usize
+        requires { at + length (items_octets self.now.source.now self.now.typed) ≤ length out.old }
+        ensures { (out.new ≡ laid out.old at (items_octets self.now.source.now self.now.typed))
+            × (result ≡ at + length (items_octets self.now.source.now self.now.typed)) }
+    {
+        let cat = self.typed.category;
+        let last = last_field(cat);
+        let mut p = at;
+        for f in 1..=last {
+            if is_marked(self.typed.marks, f) {
+                let field = field_of(cat, f);
+                p = put_item(out, p, item_in(self.typed, field.0), field, self.source);
+            }
         }
-        f += 1;
+        p
     }
-    p
-}
 
-// Writes a record in normal form, and gives the offset behind it. The record is not refused, and its octets lie in the output.
-pub(crate) fn put_record(out: &mut [u8], at: usize, record: Record, source: &[u8]) -> usize
-    requires { (record_refusal source.now «record» ≡ 0) × (at + length (record_octets source.now «record») ≤ length out.old) }
-    ensures { (out.new ≡ laid out.old at (record_octets source.now «record»)) × (result ≡ at + length (record_octets source.now «record»)) }
-{
-    let p = put_marks(out, at, record.marks);
-    put_items(out, p, record, source)
+    // Writes the record in normal form, and gives the offset behind it.
+    pub(crate) fn put(&self, out: &mut [u8], at: usize) -> usize
+        requires { at + length (record_octets self.now.source.now self.now.typed) ≤ length out.old }
+        ensures { (out.new ≡ laid out.old at (record_octets self.now.source.now self.now.typed))
+            × (result ≡ at + length (record_octets self.now.source.now self.now.typed)) }
+    {
+        let p = put_marks(out, at, self.typed.marks);
+        self.put_items(out, p)
+    }
 }

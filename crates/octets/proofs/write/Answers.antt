@@ -1,4 +1,4 @@
-use Rattle.std.proofs.Common.{ℕ, ◌≡◌, ◌∙◌, ◌+◌, ◌-◌, ◌<◌, arith, ap, sym, length, length-set}
+use Rattle.std.proofs.Common.{ℕ, ◌≡◌, ◌∙◌, ◌+◌, ◌-◌, ◌<◌, arith, ap, sym, length}
 use Prim.Native.Nat.{suc}
 use Rattle.octets.specs.Numbers.{octets, laid}
 use Rattle.octets.proofs.Laying.{laid-last, laid_none}
@@ -9,15 +9,12 @@ loop-i-preserved c =
     let a = c.args in
     let l = c.loop-i in
     let j = l.i - 1 in
-    let e : suc j ≡ l.i = omega arith in
-    let inside : a.at + j < length l.out = omega arith in (
-      omega arith,
-      simp length-set l.invariant.1,
-      l.invariant.2 ∙ ap (λ (n : ℕ). laid l.out a.at (octets n l.w)) (sym e) ∙ laid-last j l.out a.at l.w inside,
-    )
+    let e : l.i ≡ suc j = omega arith in
+    let inside : a.at + j < length l.out = omega arith in
+    l.invariant ∙ ap (λ (n : ℕ). laid l.out a.at (octets n l.w)) e ∙ laid-last j l.out a.at l.w inside
 
 pub returns : goal.returns
 returns c =
     let l = c.loop-i in
     let z : l.i ≡ 0 = omega arith in
-    sym (l.invariant.2 ∙ ap (λ (n : ℕ). laid l.out c.args.at (octets n l.w)) z ∙ laid_none l.out c.args.at l.w)
+    sym (l.invariant ∙ ap (λ (n : ℕ). laid l.out c.args.at (octets n l.w)) z ∙ laid_none l.out c.args.at l.w)

@@ -1,50 +1,50 @@
-use mathlib.Core.Path.{◌≡◌}
-use mathlib.Core.List.{List, [], ◌∷◌}
-use Prim.Native.Nat.{ℕ, suc, ◌+◌, ◌-◌, ◌*◌, ◌/◌, ◌^◌, ◌≤◌, ◌<◌}
-use native.Mathlib.Nat.{sub_self, pow-suc, pow-le-pow_right, zero-lt-suc, lt_of_lt_of_le}
+-- `marks_at` lays the marks of each octet before those behind it, from the last octet to the first. Assumes nothing.
+use mathlib.Core.Path.{◌≡◌, refl, ap, ◌∙◌}
+use mathlib.Core.List.{List, [], ◌∷◌, reverse, reverse-cons}
+use Prim.Native.Nat.{ℕ, zero, suc, ◌+◌, ◌-◌, ◌*◌, ◌/◌, ◌%◌, ◌^◌, ◌≤◌, ◌<◌}
+use native.Mathlib.Nat.{pow-suc, pow-le-pow_right, zero-lt-suc, lt_of_lt_of_le}
+use native.Mathlib.Numerals.{add-one}
 use native.Mathlib.Omega.{arith}
-use lib.ListN.{get_or}
+use lib.ListN.{length, get_or, take, drop}
+use borrow.Author.Rules.{rules}
+use Rattle.std.specs.List.{fold}
+use Rattle.std.proofs.Math.Seq.{drop-cons}
+use Rattle.std.proofs.lemmas.List.Sums.{fold_push}
+use Rattle.std.proofs.lemmas.Iterator.Adapters.{YieldsList-from_rev_slice}
+use Rattle.std.proofs.lemmas.Iterator.Consumers.{fold_from_yields_List}
 use Rattle.blocks.specs.Specification.{flags}
 use Rattle.blocks.specs.Marks.{marks_of, groups_of}
-use Rattle.blocks.proofs.MarksLaws.{marks_cons}
-use borrow.Author.Rules.{rules}
+use Rattle.blocks.proofs.MarksLaws.{marks-one, marks_cons}
 use Rattle.blocks.proofs.marks.marks_at.Goals as goal
 
--- one octet more, in front
-module _ (n i m r : ℕ) (some : 0 < i) (within : i ≤ n) where
-  more : (s : List ℕ) (at : ℕ) → m ≡ marks_of (flags (groups_of (n - i) s (at + i)))
-      → r ≡ marks_of (flags (get_or s (at + (i - 1)) 0 / 2 ∷ []))
-      → m * 128 + r ≡ marks_of (flags (groups_of (n - (i - 1)) s (at + (i - 1))))
-  unfolding groups_of
-  more s at h f =
-      let one : n - (i - 1) ≡ suc (n - i) = omega arith in
-      let next : at + (i - 1) + 1 ≡ at + i = omega arith in
-      rw (one, next, marks_cons (get_or s (at + (i - 1)) 0 / 2) (groups_of (n - i) s (at + i)), ← f, ← h)
+-- the marks m, and an octet's before them
+abbrev lay : ℕ → ℕ → ℕ
+lay m x = m * 2 ^ 7 % 2 ^ 32 + marks_of (flags (x / 2 ∷ []))
 
-  more_lt : m < 128 ^ (n - i) → r < 128 → m * 128 + r < 128 ^ (n - (i - 1))
-  more_lt h f =
-      let one : n - (i - 1) ≡ suc (n - i) = omega arith in
-      rw (one, pow-suc) (omega arith)
+-- the marks of n octets
+few : (n : ℕ) (s : List ℕ) (at : ℕ) → marks_of (flags (groups_of n s at)) < 128 ^ n
+unfolding groups_of marks_of flags
+few zero s at = omega arith
+few (suc n) s at =
+    let g = get_or s at 0 / 2 in
+    rw (marks_cons g (groups_of n s (at + 1)), marks-one g, pow-suc) (omega (arith, few n s (at + 1)))
 
--- the marks of at most three octets
-small : (k m : ℕ) → k ≤ 3 → m < 128 ^ k → m < 128 ^ 3
-small k m l h = lt_of_lt_of_le h (pow-le-pow_right (zero-lt-suc 127) l)
+laid : (n : ℕ) (s : List ℕ) (at : ℕ) → n ≤ 4 → at + n ≤ length s → fold lay 0 (reverse (take n (drop at s))) ≡ marks_of (flags (groups_of n s at))
+unfolding groups_of marks_of flags
+laid zero s at h w = refl
+laid (suc n) s at h w =
+    let x = get_or s at 0 in
+    let g = groups_of n s (at + 1) in
+    let three : n ≤ 3 = omega arith in
+    let small : marks_of (flags g) < 128 ^ 3 = lt_of_lt_of_le (few n s (at + 1)) (pow-le-pow_right (zero-lt-suc 127) three) in
+    let all : marks_of (flags g) * 2 ^ 7 % 2 ^ 32 ≡ marks_of (flags g) * 128 = omega arith in
+    ap (λ (xs : List ℕ). fold lay 0 (reverse (take (suc n) xs))) (rw (← add-one at) at (drop-cons s at 0 (omega arith)))
+    ∙ rw (reverse-cons, fold_push, laid n s (at + 1) (omega arith) (omega arith), marks_cons (x / 2) g, all)
 
-pub loop-i-init : goal.loop-i-init
-unfolding marks_of flags groups_of
-loop-i-init c = (search rules, rw sub_self, rw sub_self (omega arith))
-
-pub overflow_mul-m : goal.overflow_mul-m
-overflow_mul-m c = omega (arith, small _ _ (omega arith) c.loop-i.invariant.2)
-
-pub overflow_add-m : goal.overflow_add-m
-overflow_add-m c = omega (arith, small _ _ (omega arith) c.loop-i.invariant.2)
-
-pub loop-i-preserved : goal.loop-i-preserved
-loop-i-preserved c =
-    let l = c.loop-i in
-    let a = c.args in (
-      omega arith,
-      more _ _ _ _ c.loop-i-test.true l.invariant.0 a.s.now a.at l.invariant.1 c.octet_marks.ensures.0,
-      more_lt _ _ _ _ c.loop-i-test.true l.invariant.0 l.invariant.2 c.octet_marks.ensures.1,
-    )
+pub returns : goal.returns
+returns c =
+    let a = c.args in
+    let n = a.to - a.from in
+    let all = YieldsList-from_rev_slice {s = c.rev.result} (take n (drop a.from a.s.now)) (rw (c.rev.ensures.source, c.iter.ensures.rest)) in
+    fold_from_yields_List _ lay 0 c.fold.result c.fold.ensures.ran all (λ m x b q k. search rules)
+    ∙ laid n a.s.now a.from (omega arith) (omega arith)

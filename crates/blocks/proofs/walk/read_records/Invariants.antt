@@ -5,8 +5,8 @@ use Rattle.layouts.specs.Categories.{category}
 use Rattle.blocks.proofs.ReadSteps as steps
 use Rattle.blocks.proofs.walk.read_records.Given as goal
 
-abbrev pub invariant-loop-at : goal.invariant-loop-at
-invariant-loop-at l = steps.Passed l.s l.len (category l.cat) l.at l.count
+abbrev pub invariant-loop-walked : goal.invariant-loop-walked
+invariant-loop-walked l = steps.Passed l.block.window.octets.now l.block.window.len (category l.block.cat) l.walked.at l.walked.count
 
-abbrev pub decreases-loop-at : goal.decreases-loop-at
-decreases-loop-at l = l.len - l.at
+abbrev pub decreases-loop-walked : goal.decreases-loop-walked
+decreases-loop-walked l = l.block.window.len - l.walked.at

@@ -5,7 +5,7 @@ use Rattle.feed.proofs.BlockSteps as steps
 use Rattle.feed.proofs.block.post_block.Given as goal
 
 abbrev pub invariant-loop-at : goal.invariant-loop-at
-invariant-loop-at l = steps.Posting l.s l.len l.initial.cells l.initial.after l.cells l.after l.at
+invariant-loop-at l = steps.Posting l.s l.len l.initial.ledger.cells l.initial.after l.ledger.cells l.after l.at
 
 abbrev pub decreases-loop-at : goal.decreases-loop-at
 decreases-loop-at l = l.len - l.at

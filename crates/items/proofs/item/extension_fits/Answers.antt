@@ -7,8 +7,8 @@ use borrow.Author.Tests.{eq-eqb}
 use Rattle.items.proofs.Ranges.{before-fx}
 use Rattle.items.proofs.item.extension_fits.Goals as goal
 
-pub returns : goal.returns
-returns c =
+pub returns-else-s-last-eq0 : goal.returns-else-s-last-eq0
+returns-else-s-last-eq0 c =
     let a = c.args in
     rw (eq-eqb (get_or a.s.now a.last 0 % 2) 1 (omega (arith, c.if-s-last-eq0.false)))
     (c.within.ensures ∙ sym (before-fx _ _ _ (c.type_inv.s (a.last + 1)).fits))

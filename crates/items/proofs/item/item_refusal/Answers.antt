@@ -1,5 +1,6 @@
 -- `item_refusal` by the item's variant. Assumes nothing.
 use mathlib.Core.Path.{sym, ap, ◌∙◌}
+use mathlib.Core.Logic.{inl, inr}
 use Rattle.layouts.specs.Layouts.{octet, format}
 use Rattle.layouts.specs.Tables.{counter}
 use Rattle.items.specs.Typed.{item_refusal}
@@ -13,8 +14,9 @@ returns-in-Statistics c = c.place_refusal.ensures ∙ free-refusal c.args.source
 
 pub returns-in-Expansion : goal.returns-in-Expansion
 unfolding format
-returns-in-Expansion c = c.place_refusal-in-Expansion.ensures ∙ free-refusal c.args.source.now 1 _ octet c.in-Expansion.p octet-free (entry-size _ _ _ _ c.entry_octets-size.ensures c.requires c.in-Expansion.is) ∙ sym (ap (item_refusal c.args.source.now) c.in-Expansion.is)
-
-pub returns-in-Purpose : goal.returns-in-Purpose
-unfolding format
-returns-in-Purpose c = c.place_refusal-in-Purpose.ensures ∙ free-refusal c.args.source.now 1 _ octet c.in-Purpose.p octet-free (entry-size _ _ _ _ c.entry_octets-size.ensures c.requires c.in-Purpose.is) ∙ sym (ap (item_refusal c.args.source.now) c.in-Purpose.is)
+returns-in-Expansion c =
+    c.place_refusal-in-Expansion.ensures
+    ∙ elim c.in-Expansion.is [
+      | inl is ↦ free-refusal c.args.source.now 1 _ octet c.in-Expansion.p octet-free (entry-size _ _ _ _ c.entry_octets-size.ensures c.requires is) ∙ sym (ap (item_refusal c.args.source.now) is)
+      | inr is ↦ free-refusal c.args.source.now 1 _ octet c.in-Expansion.p octet-free (entry-size _ _ _ _ c.entry_octets-size.ensures c.requires is) ∙ sym (ap (item_refusal c.args.source.now) is)
+    ]

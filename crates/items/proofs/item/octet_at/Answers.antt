@@ -1,4 +1,4 @@
-use native.Mathlib.Nat.{div-one}
+use native.Mathlib.Omega.{arith}
 use Rattle.layouts.specs.Groups.{values}
 use Rattle.layouts.specs.Offsets.{trace_at}
 use Rattle.layouts.specs.Layouts.{format}
@@ -7,4 +7,4 @@ use Rattle.items.proofs.item.octet_at.Goals as goal
 
 pub returns : goal.returns
 unfolding trace_at format values
-returns c = rw (one-octet c.args.s.now c.args.at _ c.octet.ensures.0, div-one)
+returns c = omega (arith, one-octet c.args.s.now c.args.at c.octet.result c.octet.ensures.0)

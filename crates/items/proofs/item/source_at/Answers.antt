@@ -5,4 +5,4 @@ use Rattle.items.proofs.item.source_at.Goals as goal
 
 pub returns : goal.returns
 unfolding trace_at format
-returns c = c.source_of.ensures ∙ rw c.read2.ensures
+returns c = c.source_of.ensures ∙ rw c.read.ensures.0

@@ -9,4 +9,4 @@ pub returns : goal.returns
 unfolding trace_at format values
 returns c =
     let a = c.args in
-    rw (c.read3.ensures, div-one, mod-eq_of_lt (number_lt 3 a.s.now a.at (λ j. (c.type_inv.s j).fits)))
+    rw (c.read.ensures.0, div-one, mod-eq_of_lt (number_lt 3 a.s.now a.at (λ j. (c.type_inv.s j).fits)))

@@ -14,4 +14,4 @@ pub returns : goal.returns
 unfolding trace_at format values
 returns c =
     let a = c.args in
-    rw c.time_at-time.ensures (sym (fits-ranged time.parts (number 3 a.s.now a.at) ∙ simp (leb-zero, and-true)))
+    rw c.time_at.ensures (sym (fits-ranged time.parts (number 3 a.s.now a.at) ∙ simp (leb-zero, and-true)))

@@ -1,18 +1,15 @@
-use mathlib.Core.Bool.{and-true, and-false}
+use mathlib.Core.Bool.{and-true}
 use native.Mathlib.Omega.{arith}
-use borrow.Author.Tests.{lt-ltb, le-ltb}
+use Rattle.std.proofs.lemmas.Bool.Decides.{nat_tests}
 use Rattle.layouts.specs.Groups.{fits}
 use Rattle.layouts.specs.Formats.{fits_in}
 use Rattle.layouts.specs.Layouts.{chain, format}
-use Rattle.items.proofs.ValueLaws.{extension}
 use Rattle.items.proofs.values.configuration_fits.Goals as goal
 
-pub returns-then-x-ge8 : goal.returns-then-x-ge8
+pub returns-then-x-lt8 : goal.returns-then-x-lt8
 unfolding fits fits_in chain format
-returns-then-x-ge8 c = simp (le-ltb _ _ c.if-x-ge8.true, and-false)
+returns-then-x-lt8 c = simp and-true (grind (arith, nat_tests))
 
-pub returns : goal.returns
+pub returns-else-x-lt8 : goal.returns-else-x-lt8
 unfolding fits fits_in chain format
-returns c =
-    let x = c.args.x in
-    simp (c.period_fits.ensures, lt-ltb x.rp.0 256 (omega arith), lt-ltb x.sc 8 (omega arith), and-true, extension)
+returns-else-x-lt8 c = simp and-true (grind (arith, nat_tests))

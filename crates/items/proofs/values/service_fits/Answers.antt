@@ -1,14 +1,15 @@
 use mathlib.Core.Bool.{and-true}
-use borrow.Author.Tests.{lt-ltb, le-ltb}
+use native.Mathlib.Omega.{arith}
+use Rattle.std.proofs.lemmas.Bool.Decides.{nat_tests}
 use Rattle.layouts.specs.Groups.{fits}
 use Rattle.layouts.specs.Formats.{fits_in}
 use Rattle.layouts.specs.Layouts.{format}
 use Rattle.items.proofs.values.service_fits.Goals as goal
 
-pub returns-then-x-ge16 : goal.returns-then-x-ge16
+pub returns-then-x-lt16 : goal.returns-then-x-lt16
 unfolding fits fits_in format
-returns-then-x-ge16 c = rw (le-ltb _ _ c.if-x-ge16.true)
+returns-then-x-lt16 c = simp and-true (grind (arith, nat_tests))
 
-pub returns-else-x-ge16 : goal.returns-else-x-ge16
+pub returns-else-x-lt16 : goal.returns-else-x-lt16
 unfolding fits fits_in format
-returns-else-x-ge16 c = simp (lt-ltb _ _ c.if-x-ge16.false, and-true)
+returns-else-x-lt16 c = simp and-true (grind (arith, nat_tests))

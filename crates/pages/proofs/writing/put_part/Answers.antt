@@ -5,4 +5,4 @@ use Rattle.pages.proofs.writing.put_part.Goals as goal
 
 pub returns-in-Readings : goal.returns-in-Readings
 returns-in-Readings c =
-    readings-laid _ _ _ _ (as_row c.args.row) c.in-Readings.is c.requires.0 _ c.write8.ensures c.write4-in-Readings.ensures
+    readings-laid _ _ _ _ (as_row c.args.row) c.in-Readings.is c.requires _ c.write-in-Readings.ensures c.write-in-Readings-2.ensures

@@ -2,14 +2,11 @@ use Rattle.std.proofs.Common.{arith}
 use Rattle.vectors.proofs.PieceSteps as steps
 use Rattle.vectors.proofs.feeds.run_pieces.Goals as goal
 
-pub loop-to-init : goal.loop-to-init
-loop-to-init c = steps.waits-none _ _ c.requires
-
 -- the next offset lies in the octets
 pub overflow_add-from : goal.overflow_add-from
 overflow_add-from c =
-    let w = steps.waits-more _ (λ j. (c.type_inv.s j).fits) _ _ _ _ c.loop-to.invariant c.with_piece-to.ensures _ _ _ _ c.run-done.ensures in
+    let w = steps.waits-more _ _ _ _ c.loop-to.invariant c.with_piece-to.ensures _ _ _ c.run-done.ensures.1 in
     omega (arith, w.within, w.come)
 
 pub loop-to-preserved : goal.loop-to-preserved
-loop-to-preserved c = steps.waits-more _ (λ j. (c.type_inv.s j).fits) _ _ _ _ c.loop-to.invariant c.with_piece-to.ensures _ _ _ _ c.run-done.ensures
+loop-to-preserved c = steps.waits-more _ _ _ _ c.loop-to.invariant c.with_piece-to.ensures _ _ _ c.run-done.ensures.1

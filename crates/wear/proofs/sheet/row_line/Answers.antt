@@ -7,7 +7,7 @@ use Rattle.wear.proofs.sheet.row_line.Goals as goal
 pub returns : goal.returns
 unfolding quoted
 returns c =
-    let key = key-put _ _ _ _ c.write4.ensures c.hex-a.ensures in
-    let to-life = put_then _ _ _ _ _ (put_then _ _ _ _ _ key (put_one_lem _ _ _ c.emit-b.ensures)) c.number-c.ensures in
-    let to-reading = put_then _ _ _ _ _ (put_then _ _ _ _ _ to-life (put_one_lem _ _ _ c.emit-d.ensures)) c.number-e.ensures in
-    put_then _ _ _ _ _ to-reading (put_one_lem _ _ _ c.emit.ensures)
+    let key = key-put _ _ _ _ c.write.ensures c.hex.ensures in
+    let to-life = put_then _ _ _ _ _ (put_then _ _ _ _ _ key (put_one_lem _ _ _ c.emit.ensures)) c.number.ensures in
+    let to-reading = put_then _ _ _ _ _ (put_then _ _ _ _ _ to-life (put_one_lem _ _ _ c.emit-2.ensures)) c.number-2.ensures in
+    put_then _ _ _ _ _ to-reading (put_one_lem _ _ _ c.emit-3.ensures)

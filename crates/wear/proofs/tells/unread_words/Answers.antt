@@ -9,9 +9,9 @@ use Rattle.wear.proofs.tells.unread_words.Goals as goal
 pub returns : goal.returns
 unfolding quoted unread_words
 returns c =
-    let n = c.behind-n.result in
-    let small : n < 2 ^ 64 = omega (arith, c.behind-n.type_inv) in
+    let n = c.behind.result in
+    let small : n < 2 ^ 64 = omega (arith, c.behind.type_inv) in
     let short = unread-short n c.has_failed.result small in
-    let put = put_then _ _ _ _ _ (put_then _ _ _ _ _ c.unread_first-a.ensures c.number-b.ensures) c.emit_all.ensures in
-    let whole = put_whole _ _ _ _ (omega (arith, short, c.requires)) put in
-    (whole.0 ∙ (λ i. unread_words (c.behind-n.ensures i) (c.has_failed.ensures i)), whole.1)
+    let put = put_then _ _ _ _ _ (put_then _ _ _ _ _ c.unread_first.ensures c.number.ensures) c.emit_all.ensures in
+    let whole = put_whole _ _ _ _ c.new-text.ensures short put in
+    (whole.0 ∙ (λ i. unread_words (c.behind.ensures i) (c.has_failed.ensures i)), whole.1)

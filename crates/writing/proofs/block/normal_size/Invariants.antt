@@ -4,8 +4,8 @@ use Prim.Native.Nat.{◌-◌}
 use Rattle.writing.proofs.RewriteSteps as steps
 use Rattle.writing.proofs.block.normal_size.Given as goal
 
-abbrev pub invariant-loop-at : goal.invariant-loop-at
-invariant-loop-at l = steps.Counted l.s l.len l.cat l.total l.at
+abbrev pub invariant-loop-cursor : goal.invariant-loop-cursor
+invariant-loop-cursor l = steps.Counted l.block.window.octets.now l.block.window.len l.block.cat l.total l.cursor.at
 
-abbrev pub decreases-loop-at : goal.decreases-loop-at
-decreases-loop-at l = l.len - l.at
+abbrev pub decreases-loop-cursor : goal.decreases-loop-cursor
+decreases-loop-cursor l = l.block.window.len - l.cursor.at

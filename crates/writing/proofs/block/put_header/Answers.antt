@@ -6,4 +6,4 @@ use Rattle.writing.proofs.block.put_header.Goals as goal
 
 pub returns : goal.returns
 returns c =
-    c.write2.ensures ∙ first-laid _ _ _ (omega (arith, c.requires.0))
+    c.write.ensures ∙ first-laid _ _ _ (omega (arith, c.requires.0))

@@ -1,17 +1,16 @@
--- `marks_octet`: seven marks turned, and FX. Assumes nothing.
-use mathlib.Core.Path.{◌≡◌, refl}
-use mathlib.Core.Bool.{Bool, true, false}
-use Prim.Native.Nat.{◌<◌}
+-- `marks_octet`: seven marks turned. Assumes nothing.
+use mathlib.Core.Path.{◌≡◌}
+use Prim.Native.Nat.{ℕ, ◌*◌, ◌<◌}
 use native.Mathlib.Omega.{arith}
-use mir.Val.{bool_byte}
-use Rattle.octets.specs.Choice.{pick}
+use lib.ListN.{get_or}
+use mir.Syntax.{w8}
+use Rattle.std.specs.Int.{reverse_bits, reverse_bits_onto}
 use Rattle.blocks.specs.Meaning.{sevens}
 use Rattle.writing.proofs.record.marks_octet.Goals as goal
 
-fx : (b : Bool) → (bool_byte b ≡ pick b 1 0) × (bool_byte b < 2)
-fx true = (refl, omega arith)
-fx false = (refl, omega arith)
+turned : (m : ℕ) → m < 128 → (reverse_bits w8 m ≡ get_or (sevens 1 m) 0 0 * 2) × (get_or (sevens 1 m) 0 0 * 2 < 255)
+unfolding sevens reverse_bits_onto
+turned m h = omega arith
 
 pub returns : goal.returns
-unfolding sevens
-returns c = omega (arith, (fx c.args.more).0)
+returns c = omega (arith, c.reverse_bits.ensures, turned c.args.low c.requires)

@@ -7,12 +7,8 @@ use Rattle.blocks.specs.Specification.{put_marks}
 use Rattle.blocks.specs.Meaning.{sevens}
 use Rattle.writing.proofs.record.put_marks.Given as goal
 
-abbrev pub invariant-loop-left : goal.invariant-loop-left
-invariant-loop-left l =
+abbrev pub invariant-loop-p : goal.invariant-loop-p
+invariant-loop-p l =
     (l.left < 128 ^ 4)
-    × (length l.out ≡ length l.initial.out)
     × (l.at + length (put_marks (sevens 4 l.marks)) ≡ l.p + length (put_marks (sevens 4 l.left)))
     × (laid l.initial.out l.at (put_marks (sevens 4 l.marks)) ≡ laid l.out l.p (put_marks (sevens 4 l.left)))
-
-abbrev pub decreases-loop-left : goal.decreases-loop-left
-decreases-loop-left l = l.left

@@ -1,0 +1,6 @@
+-- `wear_rewrite`: there is a cell for the length. Assumes nothing.
+use Rattle.doors.proofs.DoorSteps.{put_one}
+use Rattle.doors.proofs.wear_rewrite.Goals as goal
+
+pub returns : goal.returns
+returns c = put_one c.args.out.now c.args.size.now _ c.in-Some.ensures.item.3.0 c.rewrite.ensures c.put_out.ensures

@@ -1,0 +1,9 @@
+-- `hex`: the digits of the octets before this one are put. Assumes nothing.
+use Rattle.std.proofs.Common.{◌≡◌, take}
+use mathlib.Core.List.{flat_map}
+use Rattle.text.specs.Digits.{hex_pair}
+use Rattle.text.specs.Gathered.{put_all}
+use Rattle.text.proofs.Text.hex.Given as goal
+
+abbrev pub invariant-loop-octet : goal.invariant-loop-octet
+invariant-loop-octet g l = l.self ≡ put_all l.fn.self (flat_map hex_pair (take l.octet-index l.octets))

@@ -1,0 +1,9 @@
+-- `more`: the numbers before this one are put. Assumes nothing.
+use Rattle.std.proofs.Common.{◌≡◌, take}
+use mathlib.Core.List.{flat_map}
+use Rattle.text.specs.Digits.{blank_number}
+use Rattle.text.specs.Gathered.{put_all}
+use Rattle.text.proofs.Text.more.Given as goal
+
+abbrev pub invariant-loop-value : goal.invariant-loop-value
+invariant-loop-value g l = l.self ≡ put_all l.fn.self (flat_map blank_number (take l.value-index l.values))
