@@ -158,7 +158,7 @@ uint32_t wear_page_to_old(const uint8_t *page, size_t n, uint8_t *out, size_t m,
 
 /* Posts record `number`, from 0, of a block to the ledger of a page, and stores the ledger as a page. length[0] becomes the octets of the
  * page, 0 on refusal: the page's 16, then the block's and the post's, then 12. Each call reads the whole block and judges the ledger's 256
- * places three times, so that posting all records of a feed with it is quadratic in a block's records: use wear_feed for that. */
+ * places, so that posting all records of a feed with it is quadratic in a block's records: use wear_feed for that. */
 uint32_t wear_post(const uint8_t *page, size_t n, const uint8_t *octets, size_t m, uint64_t number, uint8_t *out, size_t p,
                    uint64_t *length, size_t one);
 

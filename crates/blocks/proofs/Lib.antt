@@ -1,6 +1,7 @@
 pub mod HeaderLaws
 pub mod Suffixes
 pub mod WindowLaws
+pub mod PartLaws
 pub mod GoodRecords
 pub mod RecordLaws
 pub mod RecordTheorems

@@ -89,7 +89,9 @@ pub fn counter(s: &[u8], at: usize, k: usize) -> Entry
     requires { at + k * (entry_group_of cat23.cat).wide + (entry_group_of cat23.cat).wide ≤ length s.now }
     ensures { result ≡ report_entry s.now at k }
 {
-    counter_at(s, at + k * Cat23::ENTRY)
+    // Of its own octets alone: that they lie in the slice is known, and is not asked for each entry.
+    let from = at + k * Cat23::ENTRY;
+    counter_at(&s[from..from + Cat23::ENTRY], 0)
 }
 
 // The record at an offset of a block of category 23 that was accepted, as the ledger sees it: no typed record is made of it. Only for the next

@@ -1,7 +1,7 @@
 -- What the doors say, case by case: cells that take the values, an output with a cell for its length, a feed. Assumes nothing.
-use mathlib.Core.Path.{◌≡◌, refl, sym}
-use mathlib.Core.Bool.{Bool, false}
-use mathlib.Core.List.{List}
+use mathlib.Core.Path.{◌≡◌, refl, sym, ap}
+use mathlib.Core.Bool.{Bool, true, false}
+use mathlib.Core.List.{List, []}
 use Prim.Native.Nat.{ℕ, ◌≤◌}
 use borrow.Author.Tests.{le-ltb, eq-eqb, ne_eqb}
 use lib.ListN.{length, set}
@@ -12,8 +12,9 @@ use Rattle.octets.proofs.Laying.{laid_one}
 use Rattle.octets.proofs.Outcomes.{Says}
 use Rattle.blocks.specs.declared.record.Record.{Record}
 use Rattle.writing.specs.Written.{write_of}
-use Rattle.ledger.specs.Ledgers.{rows_of, cells_of}
-use Rattle.pages.specs.Pages.{new, load_of, store_of}
+use Rattle.octets.specs.Refusals.{rules_broken}
+use Rattle.ledger.specs.Ledgers.{rows_of, cells_of, answer}
+use Rattle.pages.specs.Pages.{new, cells_in, page_keeps, load_of, store_of}
 use Rattle.pages.specs.declared.forms.Form.{Form}
 use Rattle.ledger.specs.Posts.{post_of}
 use Rattle.ledger.specs.Steps.{Kept}
@@ -59,6 +60,16 @@ module _ (cs s : List ℕ) {n : ℕ} (judged : n ≡ cells_refusal cs) where
   pub cells_taken : n ≡ 0 → {t : Record} → t ≡ record_of cs → cells_written cs s ≡ write_of s t
   unfolding cells_written
   cells_taken h e = rw (← judged, eq-eqb n 0 h, e)
+
+-- what loading a page says, by the ledger that it has, which keeps the rules; and where it has none
+module _ (page : List ℕ) where
+  pub kept-loaded : {cells : List ℕ} → (page_keeps new page ≡ true) × (cells ≡ cells_in new page) → answer 0 cells ≡ load_of new page
+  unfolding load_of
+  kept-loaded w = rw w.0 (ap (answer 0) w.1)
+
+  pub broken-loaded : page_keeps new page ≡ false → answer rules_broken (cells_of []) ≡ load_of new page
+  unfolding load_of
+  broken-loaded e = rw e refl
 
 -- the page is refused, or the posting, or the ledger is stored
 module _ (page s : List ℕ) (k : ℕ) {a : Answer} (loaded : a ≡ load_of new page) where

@@ -1,2 +1,3 @@
 pub mod DoorSteps
 pub mod CellLaws
+pub mod Answered

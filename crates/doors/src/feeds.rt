@@ -7,10 +7,9 @@ ghost use Rattle.doors.specs.Feeds.{feed_run, page_fed, left_off, done_cells, fe
 use crate::cell;
 use feed::run::{Done, Ending, run};
 use feed::totals::ZEROS;
-use ledger::Ledger;
-use ledger::kept::KeptLedger;
 use octets::refusal::Refusal;
-use pages::{load, store};
+use pages::forms::Form;
+use pages::{load_kept, store_kept};
 
 // How a run left off: WEAR_ENDED, WEAR_STOPPED and WEAR_MORE of include/wear.h.
 const ENDED: u64 = 0;
@@ -60,12 +59,8 @@ pub(crate) fn fed_page(page: &[u8], s: &[u8], is_over: bool, out: &mut [u8]) -> 
     ensures { (out.new ≡ output_of out.old (within (length out.old) (page_fed page.now s.now is_over)))
         × (as_fed result ≡ fed_of (within (length out.old) (page_fed page.now s.now is_over)) (feed_run page.now s.now is_over)) }
 {
-    let loaded = load(page);
-    loaded.answer?;
-    let cells = loaded.ledger.cells;
-    let mut kept = KeptLedger { cells };
-    let done = run(&mut kept, s, is_over, ZEROS);
-    let ledger = Ledger::from(kept);
-    let size = store(ledger, out)?;
+    let mut ledger = load_kept(page, Form::New)?;
+    let done = run(&mut ledger, s, is_over, ZEROS);
+    let size = store_kept(&ledger, Form::New, out)?;
     Ok(Fed { size, done })
 }

@@ -23,11 +23,10 @@ use crate::cells::{RecordCells, record_cells};
 use crate::feeds::fed_page;
 use blocks::cursor::{Cursor, Found, entry};
 use blocks::walk::read;
-use ledger::post::post;
 use octets::refusal::Refusal;
 use pages::forms::Form;
 use pages::turning::turn;
-use pages::{load, store};
+use pages::{load_kept, store_kept};
 use writing::block::rewrite;
 
 // WEAR_VERSION of include/wear.h.
@@ -209,17 +208,16 @@ pub fn wear_page_to_old(page: &[u8], out: &mut [u8], size: &mut [u64]) -> u32
     turned_page(page, Form::New, out, Form::Old, size)
 }
 
-// A record of a block posted to the ledger of a page, and the ledger stored: load's refusal, post's, store's.
+// A record of a block posted to the ledger of a page, and the ledger stored: load's refusal, post's, store's. The ledger keeps the rules by its type from
+// the load on, and is not judged again.
 fn posted_page(page: &[u8], s: &[u8], k: usize, out: &mut [u8]) -> Result<usize, Refusal>
     ensures { (out.new ≡ output_of out.old (within (length out.old) (page_posted page.now s.now k)))
         × (as_written result ≡ answer_of (within (length out.old) (page_posted page.now s.now k)))
         × (listed_written (as_written result) ≡ outcome_listed (within (length out.old) (page_posted page.now s.now k))) }
 {
-    let loaded = load(page);
-    loaded.answer?;
-    let posted = post(loaded.ledger, s, k);
-    posted.answer?;
-    store(posted.ledger, out)
+    let mut ledger = load_kept(page, Form::New)?;
+    ledger.post_record(s, k)?;
+    store_kept(&ledger, Form::New, out)
 }
 
 // Load, post, store: the ledger goes in and out as a page.

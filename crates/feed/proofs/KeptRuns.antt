@@ -45,7 +45,7 @@ reports_fit s o (suc n) at = subst AllFit (sym (reports_step s n at)) (go (repor
     go ih (step.Refused m q) e = tt
     go ih (step.Taken t c) e = (record_fits s t (lies s at t c o e), ih c.at)
 
-block-ruled : (rows : List Row) (s : List ℕ) → Octets s → Ruled rows → Ruled (after add_up rows (reports_of s))
+pub block-ruled : (rows : List Row) (s : List ℕ) → Octets s → Ruled rows → Ruled (after add_up rows (reports_of s))
 block-ruled rows s o w = after-ruled rows (reports_of s) w (reports_fit s o _ 3)
 
 -- block after block

@@ -15,5 +15,6 @@ pub mod LoopSteps
 pub mod KnownLaws
 pub mod PostSteps
 pub mod PostTheorems
+pub mod LentLaws
 pub mod Answered
 pub mod Examples

@@ -17,6 +17,7 @@ use crate::entries::{entry_of, first_key};
 use crate::kept::KeptLedger;
 use crate::places::add_at;
 use crate::report::Report;
+use crate::rules::is_kept;
 use crate::{Answer, Ledger};
 use blocks::cursor::{Cursor, Taken};
 use blocks::fault::Fault;
@@ -162,8 +163,8 @@ impl KeptLedger {
         })
     }
 
-    // Record k of a block posted: the reader's refusals, 17, 13, 14, 15. A refusal leaves the ledger as it stood.
-    fn post_record(&mut self, s: &[u8], k: usize) -> Result<(), Refusal>
+    // Record k of a block posted: the reader's refusals, 17, 13, 14, 15. A refusal leaves the ledger as it stood. For the next layer.
+    pub fn post_record(&mut self, s: &[u8], k: usize) -> Result<(), Refusal>
         ensures { answer (refusal_in result) self.new.cells ≡ posted_to self.old.cells (report_of s.now k) }
     {
         read(s)?;
@@ -187,17 +188,19 @@ fn step_to(s: &[u8], k: usize) -> Result<Taken, Fault>
 pub fn post(ledger: Ledger, s: &[u8], k: usize) -> Answer
     ensures { as_answer result ≡ post_of ledger.cells s.now k }
 {
-    match KeptLedger::of(ledger) {
-        Ok(mut kept) => {
-            let answer = kept.post_record(s, k);
-            Answer {
-                answer,
-                ledger: Ledger::from(kept),
-            }
-        }
-        Err(ledger) => Answer {
+    // Judged where it stands: `KeptLedger::of` would move it into its answer, and out of that.
+    if !is_kept(&ledger.cells) {
+        return Answer {
             answer: Err(Refusal::RulesBroken),
             ledger,
-        },
+        };
+    }
+    let mut kept = KeptLedger {
+        cells: ledger.cells,
+    };
+    let answer = kept.post_record(s, k);
+    Answer {
+        answer,
+        ledger: Ledger::from(kept),
     }
 }

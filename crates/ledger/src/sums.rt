@@ -24,10 +24,11 @@ fn is_midnight(row: Row, entry: Entry) -> bool
 fn added(row: Row, entry: Entry) -> u64
     ensures { result ≡ adds (as_row row) (as_entry entry) }
 {
-    if entry.reference == FROM_LAST_REPORT || is_midnight(row, entry) || entry.count < row.reading {
+    if entry.reference == FROM_LAST_REPORT || is_midnight(row, entry) {
         entry.count
     } else {
-        entry.count - row.reading
+        // Not one test with the two above: every entry's count would then be compared, and no processor foresees which is smaller.
+        entry.count.checked_sub(row.reading).unwrap_or(entry.count)
     }
 }
 

@@ -12,10 +12,15 @@ use Rattle.pages.specs.declared.forms.Form.TheVariants as form
 use Rattle.pages.specs.declared.forms.Table.{Table}
 use Rattle.pages.proofs.PageLaws.{part-octets, Lie}
 
--- the length of a new page
-pub length-new : (f : Form) (n : ℕ) → f ≡ Form.New → 10 + 20 * n ≡ page_length (tables_of f) n
-unfolding row_long
-length-new f n e = rw e
+-- the length of a page, by its form
+module _ (f : Form) (n : ℕ) where
+  pub length-old : f ≡ Form.Old → 8 + 16 * n ≡ page_length (tables_of f) n
+  unfolding row_long
+  length-old e = rw e
+
+  pub length-new : f ≡ Form.New → 10 + 20 * n ≡ page_length (tables_of f) n
+  unfolding row_long
+  length-new e = rw e
 
 -- two octets are enough for it
 pub form-fits : (f : Form) (n : ℕ) → n ≤ 256 → page_length (tables_of f) n < 256 ^ 2
@@ -23,7 +28,15 @@ unfolding row_long
 form-fits form.Old n h = omega arith
 form-fits form.New n h = omega arith
 
--- each has keys and readings
+-- each has four numbers in its head at least, and keys and readings
+pub head-least : (f : Form) → 8 ≤ head_long (tables_of f)
+head-least form.Old = omega arith
+head-least form.New = omega arith
+
+pub head-most : (f : Form) → head_long (tables_of f) ≤ 10
+head-most form.Old = omega arith
+head-most form.New = omega arith
+
 pub readings-fit : (f : Form) (n : ℕ) → head_long (tables_of f) + 16 * n ≤ page_length (tables_of f) n
 unfolding row_long
 readings-fit form.Old n = omega arith

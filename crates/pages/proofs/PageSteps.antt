@@ -1,5 +1,5 @@
 -- A page read: what the definitions say of the case that a branch of the code is in. Assumes nothing.
-use mathlib.Core.Path.{◌≡◌, sym, ap, ◌∙◌}
+use mathlib.Core.Path.{◌≡◌, refl, sym, ap, ◌∙◌}
 use mathlib.Core.Bool.{◌&&◌}
 use mathlib.Core.List.{List, [], map}
 use Prim.Native.Nat.{ℕ, ◌+◌, ◌*◌, ◌-◌, ◌≤◌, ◌<◌}
@@ -10,11 +10,11 @@ use lib.Seq.{get_or-set_same}
 use borrow.Author.Tests.{ltb-true, ltb-false}
 use Rattle.octets.specs.Numbers.{number}
 use Rattle.octets.proofs.Cases.{test}
-use Rattle.rows.specs.Rows.{new_row}
+use Rattle.rows.specs.Rows.{no_time, new_row}
 use Rattle.rows.specs.Order.{upto}
 use Rattle.rows.proofs.Numbers.{at-upto}
 use Rattle.ledger.specs.Ledgers.{ledger_cells, row_in, count_of, cells_of}
-use Rattle.pages.specs.Pages.{tables_of, head_long, row_long, page_length, starts, row_at, cells_in, stand, head_keeps}
+use Rattle.pages.specs.Pages.{tables_of, head_long, row_long, page_length, starts, row_from, row_at, cells_in, stand, head_keeps}
 use Rattle.pages.specs.declared.forms.Form.{Form}
 use Rattle.pages.specs.declared.forms.Form.TheVariants as form
 use Rattle.pages.specs.declared.page.Page.{Page}
@@ -31,6 +31,30 @@ pub head-tests : (f : Form) (s : List ℕ) (n long size : ℕ) → long ≡ head
 unfolding starts stand row_long
 head-tests form.Old s n long size el es en = let z : 8 + 0 * number 2 s 0 ≡ 8 = omega arith in rw (el, es, en, z) (grind arith)
 head-tests form.New s n long size el es en = let z : 10 + 0 * number 2 s 0 ≡ 10 = omega arith in rw (el, es, en, z) (grind arith)
+
+-- the same with the numbers as they were read
+pub head_tests : (f : Form) (s : List ℕ) (n long size a b c d : ℕ) → long ≡ head_long (tables_of f) → size ≡ page_length (tables_of f) n
+    → n ≡ number 2 s 0 → a ≡ number 2 s 2 → b ≡ number 2 s 4 → c ≡ number 2 s 6 → d ≡ number 2 s (long - 2)
+    → (leb n 256 && eqb a long && eqb b (long + 4 * n) && eqb c (long + 16 * n) && eqb d size && eqb (length s) size) ≡ head_keeps (tables_of f) s
+head_tests f s n long size a b c d el es en ea eb ec ed = rw (ea, eb, ec, ed) (sym (head-tests f s n long size el es en))
+
+-- A row
+
+module _ (f : Form) (s : List ℕ) (n i : ℕ) where
+  pub time-old : f ≡ Form.Old → no_time ≡ (row_at (tables_of f) s n i).time
+  unfolding row_from
+  time-old e = rw e
+
+  pub time-new : f ≡ Form.New → (t : ℕ) → t ≡ number 4 s (10 + 16 * n + 4 * i) → t ≡ (row_at (tables_of f) s n i).time
+  unfolding row_from
+  time-new e t is = rw e is
+
+-- both forms have keys first, and readings behind them
+pub firsts : (f : Form) (s : List ℕ) (n i : ℕ) → let long = head_long (tables_of f) in let r = row_at (tables_of f) s n i in
+    (r.key ≡ number 4 s (long + 4 * i)) × (r.life ≡ number 8 s (long + 4 * n + 12 * i)) × (r.reading ≡ number 4 s (long + 4 * n + 12 * i + 8))
+unfolding row_from
+firsts form.Old s n i = (ap (number 4 s) (omega arith), refl, refl)
+firsts form.New s n i = (ap (number 4 s) (omega arith), refl, refl)
 
 -- What a page's head says
 page-few : (page : Page) → page.n ≤ 256

@@ -32,7 +32,7 @@ use Rattle.pages.proofs.PutSteps.{store_puts}
 
 -- What the rules and the widths hold of rows
 
-time-small : (time : ℕ) → time_keeps time ≡ true → time < 2 ^ 32
+pub time-small : (time : ℕ) → time_keeps time ≡ true → time < 2 ^ 32
 time-small time h =
     either (leb time latest_time) (eqb time no_time) h (λ t. omega (arith, leb-true time latest_time t)) (λ t. omega (arith, eqb-true time no_time t))
 
@@ -129,7 +129,7 @@ module _ (f : Form) where
       (λ e. let z : rules_broken ≡ 0 = ap (λ a. a.refusal) e in absurd (omega arith))
 
   -- a page with its head has the cells of a ledger
-  page-held : (s : List ℕ) → Octets s → head_keeps ts s ≡ true → Held (cells_in ts s)
+  pub page-held : (s : List ℕ) → Octets s → head_keeps ts s ≡ true → Held (cells_in ts s)
   page-held s o h =
       small-held (rows_in ts s) (rw (listed-many (row_at ts s (count_in s)) (count_in s)) (head-says ts s h).few) (small_in ts s o)
 

@@ -22,6 +22,7 @@ use Rattle.ledger.proofs.TableLaws.{listed-many, listed_more, table-laid}
 use Rattle.pages.specs.Pages.{row_octets, row_wide, tables_of, head_long, row_long, page_length, starts, twos, tables, head_of, page_of, store_of}
 use Rattle.pages.specs.declared.forms.Form.{Form}
 use Rattle.pages.specs.declared.forms.Table.{Table}
+use Rattle.pages.specs.declared.forms.Table.TheVariants as columns
 use Rattle.pages.proofs.FormLaws.{length-new, readings-fit}
 use Rattle.pages.proofs.PageLaws.{row-wide, twos-long, head-long, tables-long, page-long}
 
@@ -38,6 +39,11 @@ module _ (t : Table) (l l' : List ℕ) (at : ℕ) (r : Row) where
         → l'' ≡ laid l at (row_octets t r)
     readings-laid l'' f g =
         rw e (behind l l' l'' at (at + 8) (octets 8 r.life) (octets 4 r.reading) (rw length-octets) (omega (arith, room, ap row_wide e)) f g)
+
+pub wide-most : (t : Table) → row_wide t ≤ 12
+wide-most columns.Keys = omega arith
+wide-most columns.Readings = omega arith
+wide-most columns.Times = omega arith
 
 -- A table being filled from an offset on: the first i rows so far
 

@@ -14,10 +14,11 @@ pub mod turning;
 mod writing;
 
 use crate::forms::Form;
-use crate::reading::load_kept;
+pub use crate::reading::load_kept;
 use crate::turning::turn;
-use crate::writing::store_kept;
+pub use crate::writing::store_kept;
 use ledger::kept::KeptLedger;
+use ledger::rules::is_kept;
 use ledger::{Answer, Ledger, fresh};
 use octets::refusal::Refusal;
 
@@ -43,7 +44,13 @@ pub fn store(ledger: Ledger, out: &mut [u8]) -> Result<usize, Refusal>
         × (as_written result ≡ answer_of (within (length out.old) (store_of new ledger.cells)))
         × (listed_written (as_written result) ≡ outcome_listed (within (length out.old) (store_of new ledger.cells))) }
 {
-    let kept = KeptLedger::of(ledger).map_err(|_| Refusal::RulesBroken)?;
+    // Judged where it stands, as a post is.
+    if !is_kept(&ledger.cells) {
+        return Err(Refusal::RulesBroken);
+    }
+    let kept = KeptLedger {
+        cells: ledger.cells,
+    };
     store_kept(&kept, Form::New, out)
 }
 

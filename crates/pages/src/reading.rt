@@ -8,6 +8,7 @@ use crate::forms::Form;
 use crate::page::Page;
 use ledger::cells::{COUNT, NO_TIME, ROWS, Row, put_row};
 use ledger::kept::KeptLedger;
+use ledger::rules::is_kept;
 use ledger::{Ledger, fresh};
 use octets::read;
 use octets::refusal::Refusal;
@@ -83,11 +84,19 @@ impl<'a> Page<'a> {
     }
 }
 
-// The ledger of a page in either form, or 16.
-pub(crate) fn load_kept(octets: &[u8], form: Form) -> Result<KeptLedger, Refusal>
+// The ledger of a page in either form, or 16. For the next layer: whoever works on the ledger that a page has, and stores it, moves it as little as may be.
+pub fn load_kept(octets: &[u8], form: Form) -> Result<KeptLedger, Refusal>
     ensures kept { IfOk result (λ ledger. (page_keeps (tables_of form) octets.now ≡ true) × (ledger.cells ≡ cells_in (tables_of form) octets.now)) }
     ensures broken { IfErr result (λ refusal. (page_keeps (tables_of form) octets.now ≡ false) × (number_of refusal ≡ rules_broken)) }
 {
     let page = Page::of(octets, form).ok_or(Refusal::RulesBroken)?;
-    KeptLedger::of(page.ledger()).map_err(|_| Refusal::RulesBroken)
+    // Judged where it stands, as a post is.
+    let ledger = page.ledger();
+    if is_kept(&ledger.cells) {
+        Ok(KeptLedger {
+            cells: ledger.cells,
+        })
+    } else {
+        Err(Refusal::RulesBroken)
+    }
 }

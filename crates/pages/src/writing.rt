@@ -70,8 +70,8 @@ fn put_page(out: &mut [u8], form: Form, ledger: &KeptLedger)
     }
 }
 
-// Stores a ledger as a page in either form: 12; octets past the page stay.
-pub(crate) fn store_kept(ledger: &KeptLedger, form: Form, out: &mut [u8]) -> Result<usize, Refusal>
+// Stores a ledger as a page in either form: 12; octets past the page stay. For the next layer.
+pub fn store_kept(ledger: &KeptLedger, form: Form, out: &mut [u8]) -> Result<usize, Refusal>
     ensures { let outcome = within (length out.old) (puts (page_of (tables_of form) (rows_of ledger.now.cells))) in
         (out.new ≡ output_of out.old outcome) × (as_written result ≡ answer_of outcome)
         × (listed_written (as_written result) ≡ outcome_listed outcome) }

@@ -88,14 +88,20 @@ put-room l held (x ∷ xs) h =
     ∙ (λ i. gathered (laid-laid l held (x ∷ []) xs (omega arith) i) (sum i))
 
 -- gathered from the start, it is what the buffer begins with
-pub put_whole : (n : ℕ) (new g : Gathered) (xs : List ℕ) → new ≡ gathered (replicate n 0) 0 → length xs ≤ n → g ≡ put_all new xs
-    → (take g.held g.octets ≡ xs) × IsPrefixLen g.held g.octets
+pub put_whole : (l l' : List ℕ) (n : ℕ) (xs : List ℕ) → length xs ≤ length l → gathered l' n ≡ put_all (gathered l 0) xs
+    → (take n l' ≡ xs) × IsPrefixLen n l'
 unfolding laid
-put_whole n new g xs s h e =
+put_whole l l' n xs h e =
+    let is = e ∙ put-room l 0 xs (omega arith) in
+    let lies : l' ≡ laid l 0 xs = ap (λ g. g.octets) is in
+    let many : n ≡ length xs = ap (λ g. g.held) is ∙ zero-add (length xs) in
+    let same : take n l' ≡ xs = ap (take n) lies ∙ take_at xs (drop (0 + length xs) l) n (sym many) in
+    (same, (omega (arith, ap length lies, length-laid l 0 xs (omega arith)), many ∙ ap length (sym same)))
+
+-- as in a new text
+pub put_new : (n : ℕ) (new g : Gathered) (xs : List ℕ) → new ≡ gathered (replicate n 0) 0 → length xs ≤ n → g ≡ put_all new xs
+    → (take g.held g.octets ≡ xs) × IsPrefixLen g.held g.octets
+put_new n new g xs s h e =
     let l : List ℕ = replicate n 0 in
     let long : length l ≡ n = length-replicate n 0 in
-    let is = e ∙ ap (λ t. put_all t xs) s ∙ put-room l 0 xs (omega arith) in
-    let lies : g.octets ≡ laid l 0 xs = ap (λ g. g.octets) is in
-    let many : g.held ≡ length xs = ap (λ g. g.held) is ∙ zero-add (length xs) in
-    let same : take g.held g.octets ≡ xs = ap (take g.held) lies ∙ take_at xs (drop (0 + length xs) l) g.held (sym many) in
-    (same, (omega (arith, ap length lies, length-laid l 0 xs (omega arith)), many ∙ ap length (sym same)))
+    put_whole l g.octets g.held xs (omega arith) (e ∙ ap (λ t. put_all t xs) s)

@@ -12,6 +12,99 @@ use std::marker::Model;
 pub mod digits;
 pub mod refusals;
 
+// Of a lent buffer of any length, and how many of its octets are held: each function gives how many are held then. A `Text`, below, has a buffer of its own.
+// Writes what is gathered; gathering then begins anew.
+pub fn flush(text: &[u8], held: usize) -> usize
+    ensures { result ≡ 0 }
+{
+    if held <= text.len() {
+        io::write_all(1, &text[..held]);
+    }
+    0
+}
+
+// Where the next octet goes: behind those held; a full buffer is written first.
+fn make_room(text: &[u8], held: usize) -> usize
+    ensures { gathered text.now result ≡ made_room (gathered text.now held) }
+{
+    if text.len() <= held {
+        flush(text, held)
+    } else {
+        held
+    }
+}
+
+// One octet more.
+#[tactic(auto, unfolding(crate::specs::Gathered::put_one))]
+pub fn emit(text: &mut [u8], held: usize, octet: u8) -> usize
+    ensures { gathered text.new result ≡ put_one (gathered text.old held) octet }
+{
+    let at = make_room(text, held);
+    if at < text.len() {
+        text[at] = octet;
+        at + 1
+    } else {
+        at
+    }
+}
+
+// Several octets more.
+#[tactic(auto, using(crate::proofs::GatheredLaws::puts))]
+pub fn emit_all(text: &mut [u8], held: usize, octets: &[u8]) -> usize
+    ensures { gathered text.new result ≡ put_all (gathered text.old held) octets.now }
+{
+    let mut at = held;
+    for octet in octets {
+        at = emit(text, at, *octet);
+    }
+    at
+}
+
+// A number in decimal.
+#[tactic(auto, using(crate::proofs::DecimalLaws::decimal_digits))]
+pub fn number(text: &mut [u8], held: usize, n: u64) -> usize
+    ensures { gathered text.new result ≡ put_all (gathered text.old held) (decimal n) }
+{
+    let mut digits = [0u8; 20];
+    let k = io::decimal(n, &mut digits);
+    emit_all(text, held, &digits[..k])
+}
+
+// A word and a number.
+#[tactic(auto, using(crate::proofs::GatheredLaws::puts))]
+pub fn word_number(text: &mut [u8], held: usize, word: &[u8], n: u64) -> usize
+    ensures { gathered text.new result ≡ put_all (gathered text.old held) (word.now ++ decimal n) }
+{
+    let at = emit_all(text, held, word);
+    number(text, at, n)
+}
+
+// More numbers, with a blank before each.
+#[tactic(auto, using(crate::proofs::GatheredLaws::puts))]
+pub fn more(text: &mut [u8], held: usize, values: &[u64]) -> usize
+    ensures { gathered text.new result ≡ put_all (gathered text.old held) (flat_map blank_number values.now) }
+{
+    let mut at = held;
+    for value in values {
+        at = emit(text, at, b' ');
+        at = number(text, at, *value);
+    }
+    at
+}
+
+// Octets, two digits each.
+#[tactic(auto, using(crate::proofs::GatheredLaws::puts))]
+pub fn hex(text: &mut [u8], held: usize, octets: &[u8]) -> usize
+    ensures { gathered text.new result ≡ put_all (gathered text.old held) (flat_map hex_pair octets.now) }
+{
+    let mut at = held;
+    for octet in octets {
+        at = emit(text, at, hex_digit(*octet / 16));
+        at = emit(text, at, hex_digit(*octet));
+    }
+    at
+}
+
 // A buffer, and how many of its octets are held. Held is any number: a buffer that holds more than it has room for is full.
 #[derive(Drop)]
 pub struct Text<const N: usize> {
@@ -38,85 +131,46 @@ impl<const N: usize> Text<N> {
         }
     }
 
-    // Writes what is gathered; gathering then begins anew.
+    // Each of these is the function of its name, of the buffer and what it holds.
     pub fn flush(&mut self)
         ensures { self.new ≡ gathered self.old.octets 0 }
     {
-        if self.held <= self.octets.len() {
-            io::write_all(1, &self.octets[..self.held]);
-        }
-        self.held = 0;
+        self.held = flush(&self.octets, self.held);
     }
 
-    // A full buffer is written.
-    fn make_room(&mut self)
-        ensures { self.new ≡ made_room self.old }
-    {
-        if self.octets.len() <= self.held {
-            self.flush();
-        }
-    }
-
-    // One octet more.
-    #[tactic(auto, unfolding(crate::specs::Gathered::put_one))]
     pub fn emit(&mut self, octet: u8)
         ensures { self.new ≡ put_one self.old octet }
     {
-        self.make_room();
-        if self.held < self.octets.len() {
-            self.octets[self.held] = octet;
-            self.held += 1;
-        }
+        self.held = emit(&mut self.octets, self.held, octet);
     }
 
-    // Several octets more.
-    #[tactic(auto, using(crate::proofs::GatheredLaws::puts))]
     pub fn emit_all(&mut self, octets: &[u8])
         ensures { self.new ≡ put_all self.old octets.now }
     {
-        for octet in octets {
-            self.emit(*octet);
-        }
+        self.held = emit_all(&mut self.octets, self.held, octets);
     }
 
-    // A number in decimal.
-    #[tactic(auto, using(crate::proofs::DecimalLaws::decimal_digits))]
     pub fn number(&mut self, n: u64)
         ensures { self.new ≡ put_all self.old (decimal n) }
     {
-        let mut digits = [0u8; 20];
-        let k = io::decimal(n, &mut digits);
-        self.emit_all(&digits[..k]);
+        self.held = number(&mut self.octets, self.held, n);
     }
 
-    // A word and a number.
-    #[tactic(auto, using(crate::proofs::GatheredLaws::puts))]
     pub fn word_number(&mut self, word: &[u8], n: u64)
         ensures { self.new ≡ put_all self.old (word.now ++ decimal n) }
     {
-        self.emit_all(word);
-        self.number(n);
+        self.held = word_number(&mut self.octets, self.held, word, n);
     }
 
-    // More numbers, with a blank before each.
-    #[tactic(auto, using(crate::proofs::GatheredLaws::puts))]
     pub fn more(&mut self, values: &[u64])
         ensures { self.new ≡ put_all self.old (flat_map blank_number values.now) }
     {
-        for value in values {
-            self.emit(b' ');
-            self.number(*value);
-        }
+        self.held = more(&mut self.octets, self.held, values);
     }
 
-    // Octets, two digits each.
-    #[tactic(auto, using(crate::proofs::GatheredLaws::puts))]
     pub fn hex(&mut self, octets: &[u8])
         ensures { self.new ≡ put_all self.old (flat_map hex_pair octets.now) }
     {
-        for octet in octets {
-            self.emit(hex_digit(*octet / 16));
-            self.emit(hex_digit(*octet));
-        }
+        self.held = hex(&mut self.octets, self.held, octets);
     }
 }

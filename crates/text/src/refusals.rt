@@ -1,10 +1,10 @@
 // What a refusal says.
 ghost use Rattle.std.specs.Prelude.{◌≡◌};
 ghost use Rattle.octets.specs.Refusals.{number_of};
-ghost use Rattle.text.specs.Gathered.{put_all};
+ghost use Rattle.text.specs.Gathered.{gathered, put_all};
 ghost use Rattle.text.specs.Sentences.{sentence};
 
-use crate::Text;
+use crate::{Text, emit_all};
 use octets::refusal::Refusal;
 
 // The sentence of a refusal, as README.md and include/wear.h have it.
@@ -51,11 +51,18 @@ fn words(n: u8) -> &'static [u8]
     }
 }
 
+// What a refusal number says: of any number, as 0 and those that no refusal has have their sentences too.
+pub fn say_refusal(text: &mut [u8], held: usize, n: u8) -> usize
+    ensures { gathered text.new result ≡ put_all (gathered text.old held) (sentence n) }
+{
+    emit_all(text, held, words(n))
+}
+
 impl<const N: usize> Text<N> {
-    // What a refusal number says: of any number, as 0 and those that no refusal has have their sentences too.
+    // The same of the buffer and what it holds.
     pub fn say_refusal(&mut self, n: u8)
         ensures { self.new ≡ put_all self.old (sentence n) }
     {
-        self.emit_all(words(n));
+        self.held = say_refusal(&mut self.octets, self.held, n);
     }
 }

@@ -99,14 +99,17 @@ fn say(store: &[u8], text: &mut Text, case: Case) {
 
 // The end of a line, which is as if by a blank: what is then not between two words is no case. An empty line is passed over, and a comment was
 // written as it came.
-pub(crate) fn end(store: &mut [u8], text: &mut Text, line: Line) {
+pub(crate) fn end(store: &mut [u8], text: &mut Text, line: &mut Line) {
     match line {
         Line::Start => return,
         Line::Comment => {}
-        _ => match next(store, line, b' ') {
-            Line::Between(case) => say(store, text, case),
-            _ => unknown(text),
-        },
+        _ => {
+            next(store, line, b' ');
+            match line {
+                Line::Between(case) => say(store, text, *case),
+                _ => unknown(text),
+            }
+        }
     }
     text.emit(b'\n');
 }

@@ -67,12 +67,10 @@ fn named(letters: Letters) -> Line {
     }
 }
 
-// One digit more of a number.
-fn digit(case: Case, n: usize, c: u8) -> Line {
-    match with_digit(n, c) {
-        Some(more) => Line::Digits(case, more),
-        None => Line::Wrong,
-    }
+// One digit more of a number; none where it is no digit, or too many.
+fn digit(n: &mut usize, c: u8) -> Option<()> {
+    *n = with_digit(*n, c)?;
+    Some(())
 }
 
 // Behind a number; a case that has the most numbers gets no more.
@@ -86,11 +84,9 @@ fn numbered(mut case: Case, n: usize) -> Line {
     Line::Between(case)
 }
 
-// One digit more of a word of octets: every second one ends an octet.
-fn half_octet(store: &mut [u8], case: Case, mut word: Word, c: u8) -> Line {
-    let Some(value) = hex_value(c) else {
-        return Line::Wrong;
-    };
+// One digit more of a word of octets: every second one ends an octet; none where it is no digit.
+fn half_octet(store: &mut [u8], word: &mut Word, c: u8) -> Option<()> {
+    let value = hex_value(c)?;
     if let Some(n) = word.count {
         word.count = with_digit(n, c);
     }
@@ -103,7 +99,7 @@ fn half_octet(store: &mut [u8], case: Case, mut word: Word, c: u8) -> Line {
         }
         None => word.half = Some(value * 16),
     }
-    Line::Octets(case, word)
+    Some(())
 }
 
 // Behind the star of a word: its digits were a count, and no octets.
@@ -147,32 +143,52 @@ fn worded(store: &mut [u8], mut case: Case, word: Word) -> Line {
 // The first octet of a number, or of a word of octets.
 fn begun(store: &mut [u8], case: Case, c: u8) -> Line {
     if !case.is_numbered() {
-        return digit(case, 0, c);
+        return match with_digit(0, c) {
+            Some(n) => Line::Digits(case, n),
+            None => Line::Wrong,
+        };
     }
-    let word = Word {
+    let mut word = Word {
         end: Some(case.len),
         count: Some(0),
         times: 1,
         half: None,
     };
-    half_octet(store, case, word, c)
+    match half_octet(store, &mut word, c) {
+        Some(()) => Line::Octets(case, word),
+        None => Line::Wrong,
+    }
 }
 
-// One octet more of a line.
-pub(crate) fn next(store: &mut [u8], line: Line, c: u8) -> Line {
-    match (line, c) {
-        (Line::Start, b'#') => Line::Comment,
-        (Line::Start, _) => letter(Letters::NONE, c),
-        (Line::Letters(letters), b' ') => named(letters),
-        (Line::Letters(letters), _) => letter(letters, c),
-        (Line::Between(_), b' ') => line,
-        (Line::Between(case), _) => begun(store, case, c),
-        (Line::Digits(case, n), b' ') => numbered(case, n),
-        (Line::Digits(case, n), _) => digit(case, n, c),
-        (Line::Octets(case, word), b' ') => worded(store, case, word),
-        (Line::Octets(case, word), b'*') => starred(case, word),
-        (Line::Octets(case, word), _) => half_octet(store, case, word, c),
-        (Line::Comment | Line::Wrong, _) => line,
+// A line behind an octet with which it comes into something else.
+fn turned(store: &mut [u8], line: Line, c: u8) -> Line {
+    match line {
+        Line::Start if c == b'#' => Line::Comment,
+        Line::Start => letter(Letters::NONE, c),
+        Line::Letters(letters) if c == b' ' => named(letters),
+        Line::Letters(letters) => letter(letters, c),
+        Line::Between(case) => begun(store, case, c),
+        Line::Digits(case, n) => numbered(case, n),
+        Line::Octets(case, word) if c == b'*' => starred(case, word),
+        Line::Octets(case, word) => worded(store, case, word),
+        Line::Comment | Line::Wrong => line,
+    }
+}
+
+// One octet more of a line. Most are digits, and what stays as it is stays where it is: a case, which is long, is not copied for each.
+pub(crate) fn next(store: &mut [u8], line: &mut Line, c: u8) {
+    let more = match line {
+        Line::Comment | Line::Wrong => return,
+        Line::Between(_) if c == b' ' => return,
+        Line::Digits(_, n) if c != b' ' => digit(n, c),
+        Line::Octets(_, word) if c != b' ' && c != b'*' => half_octet(store, word, c),
+        _ => {
+            *line = turned(store, *line, c);
+            return;
+        }
+    };
+    if more.is_none() {
+        *line = Line::Wrong;
     }
 }
 

@@ -16,26 +16,24 @@ use crate::case::Line;
 // The text that is gathered.
 type Text = text::Text<1024>;
 
-// One octet of input; what the line is then.
-fn take(store: &mut [u8], text: &mut Text, line: Line, c: u8) -> Line {
+// One octet of input.
+fn take(store: &mut [u8], text: &mut Text, line: &mut Line, c: u8) {
     if c == b'\n' {
         answer::end(store, text, line);
-        return Line::Start;
+        *line = Line::Start;
+        return;
     }
-    let longer = case::next(store, line, c);
-    if matches!(longer, Line::Comment) {
+    case::next(store, line, c);
+    if matches!(line, Line::Comment) {
         text.emit(c);
     }
-    longer
 }
 
 // Several octets of input, one after the other.
-fn take_all(store: &mut [u8], text: &mut Text, first: Line, octets: &[u8]) -> Line {
-    let mut line = first;
+fn take_all(store: &mut [u8], text: &mut Text, line: &mut Line, octets: &[u8]) {
     for octet in octets {
-        line = take(store, text, line, *octet);
+        take(store, text, line, *octet);
     }
-    line
 }
 
 // Reads until nothing comes. A proved loop has to end, and nothing says that the input does: it has a number of turns that no run uses up.
@@ -47,9 +45,9 @@ fn run_all(store: &mut [u8], text: &mut Text) {
         if n == 0 {
             break;
         }
-        line = take_all(store, text, line, &input[..n]);
+        take_all(store, text, &mut line, &input[..n]);
     }
-    answer::end(store, text, line);
+    answer::end(store, text, &mut line);
     text.flush();
 }
 

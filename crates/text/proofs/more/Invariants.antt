@@ -2,8 +2,8 @@
 use Rattle.std.proofs.Common.{◌≡◌, take}
 use mathlib.Core.List.{flat_map}
 use Rattle.text.specs.Digits.{blank_number}
-use Rattle.text.specs.Gathered.{put_all}
-use Rattle.text.proofs.Text.more.Given as goal
+use Rattle.text.specs.Gathered.{gathered, put_all}
+use Rattle.text.proofs.more.Given as goal
 
 abbrev pub invariant-loop-value : goal.invariant-loop-value
-invariant-loop-value g l = l.self ≡ put_all l.fn.self (flat_map blank_number (take l.value-index l.values))
+invariant-loop-value l = gathered l.text l.at ≡ put_all (gathered l.fn.text l.held) (flat_map blank_number (take l.value-index l.values))

@@ -2,8 +2,8 @@
 use Rattle.std.proofs.Common.{◌≡◌, take}
 use mathlib.Core.List.{flat_map}
 use Rattle.text.specs.Digits.{hex_pair}
-use Rattle.text.specs.Gathered.{put_all}
-use Rattle.text.proofs.Text.hex.Given as goal
+use Rattle.text.specs.Gathered.{gathered, put_all}
+use Rattle.text.proofs.hex.Given as goal
 
 abbrev pub invariant-loop-octet : goal.invariant-loop-octet
-invariant-loop-octet g l = l.self ≡ put_all l.fn.self (flat_map hex_pair (take l.octet-index l.octets))
+invariant-loop-octet l = gathered l.text l.at ≡ put_all (gathered l.fn.text l.held) (flat_map hex_pair (take l.octet-index l.octets))
